@@ -5,3 +5,6 @@ pub mod Seen
 pub mod Declarations
 pub mod Substitution
 pub mod Charges
+pub mod FirstTerms
+pub mod Reduction
+pub mod FirstTyping
