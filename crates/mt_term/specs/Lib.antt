@@ -8,3 +8,8 @@ pub mod Charges
 pub mod FirstTerms
 pub mod Reduction
 pub mod FirstTyping
+pub mod DeclarationCode
+pub mod HypothesisOf
+pub mod ConstructorOf
+pub mod EntryOf
+pub mod ReasonOf

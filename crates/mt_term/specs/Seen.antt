@@ -1,6 +1,6 @@
 -- What references to the program's values say.
 use Rattle.std.specs.Prelude.{Option, Some, None}
-use Rattle.mt_term.specs.Trees.{Tree, Bytes}
+use Rattle.mt_term.specs.Trees.{Tree}
 use Rattle.mt_term.specs.TreeOf.{tree_of}
 use Rattle.mt_term.specs.declared.terms.Term.{Term}
 use denote.Bor.{Bor}

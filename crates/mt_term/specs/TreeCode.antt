@@ -1,5 +1,5 @@
 -- Trees may stand in what contracts see of a value: each is stored as a term of the program.
-use Rattle.std.specs.Prelude.{ℕ, List, ◌≡◌, refl}
+use Rattle.std.specs.Prelude.{◌≡◌, refl}
 use Rattle.std.proofs.Common.{Box, Global}
 use Rattle.std.specs.Coded.{Coded, code_by}
 use Rattle.mt_term.specs.Trees.{Tree, Trees, Arms, Var, Sort, Prod, Lam, App, Const, Ind, Con, Match, Meta, End, Item, NoArm, Arm}

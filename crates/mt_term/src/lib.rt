@@ -1,13 +1,23 @@
 //! Terms, environments and states as plain trees, and the definitions of the calculus that every layer cites.
 #![tactic(auto)]
 
+mod constructors;
 mod copies;
+mod entries;
+mod environment;
+mod hypotheses;
 mod names;
+mod refusals;
 mod terms;
 mod universes;
 
+pub use constructors::{Cons, Constructor};
 pub use copies::{copy, copy_branches, copy_terms};
+pub use entries::{Entries, Entry};
+pub use environment::{Pairs, PlainEnv};
+pub use hypotheses::{Hyp, Hyps};
 pub use names::{Name, Names};
+pub use refusals::{Fault, Halt, Refusal, Stop};
 pub use std::alloc::AllocError as OutOfMemory;
 pub use terms::{Branch, Branches, Term, Terms};
 pub use universes::{Atom, Atoms, Sort, UnivExpr};
