@@ -1,1 +1,2 @@
 pub mod FirstSoundness
+mod UniverseExamples

@@ -13,3 +13,5 @@ pub mod HypothesisOf
 pub mod ConstructorOf
 pub mod EntryOf
 pub mod ReasonOf
+pub mod Universes
+pub mod UniverseOrder

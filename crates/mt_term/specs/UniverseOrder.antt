@@ -1,0 +1,56 @@
+-- The order of universe expressions as a test, by the longest paths of constraints.
+use Rattle.std.specs.Prelude.{ℕ, ◌+◌, ◌-◌, max, Bool, true, false, not, ◌&&◌, ◌||◌, ◌==◌, nat_lt, nat_le, if◌then◌else◌, List, [], ◌∷◌}
+use Rattle.std.specs.List.{list_any, list_all}
+use Rattle.mt_term.specs.declared.universes.Atom.{Atom}
+use Rattle.mt_term.specs.declared.universes.UnivExpr.{UnivExpr}
+use Rattle.mt_term.specs.declared.universes.Sort.{Sort}
+use Rattle.mt_term.specs.declared.universes.Sort.TheVariants.{Prop, Typ}
+use Rattle.mt_term.specs.Universes.{Constraints, value}
+
+-- how many names stand on two paths, one after the other; 0 where one of them is none
+abbrev pub joined : ℕ → ℕ → ℕ
+joined m n = if (m == 0) || (n == 0) then 0 else m + n
+
+-- how many names stand on the longest path of constraints from name a to name b; 0 where there is none
+unfoldable pub path : Constraints → ℕ → ℕ → ℕ
+path [] a b = if a == b then 1 else 0
+path (c ∷ cs) a b = max (path cs a b) (joined (path cs a c.0) (path cs c.1 b))
+
+-- how many names stand below name b on the longest path into it
+unfoldable pub height : Constraints → ℕ → ℕ
+height [] b = 0
+height (c ∷ cs) b = max (height cs b) (joined (height cs c.0 + 1) (path cs c.1 b) - 1)
+
+-- no path of constraints leads back to its beginning
+unfoldable pub acyclic : Constraints → Bool
+acyclic [] = true
+acyclic (c ∷ cs) = (path cs c.1 c.0 == 0) && acyclic cs
+
+-- By path lengths and heights: atom a is at most atom b; atom a is at most one of the atoms; the order itself.
+abbrev pub covers : (ℕ → ℕ → ℕ) → Atom → Atom → Bool
+covers paths a b = nat_lt 0 (paths a.name b.name) && nat_lt a.offset (paths a.name b.name + b.offset)
+
+abbrev pub is_covered : (ℕ → ℕ → ℕ) → List Atom → Atom → Bool
+is_covered paths bs a = list_any (covers paths a) bs
+
+abbrev pub at_most_by : (ℕ → ℕ → ℕ) → (ℕ → ℕ) → UnivExpr → UnivExpr → Bool
+at_most_by paths heights u w = nat_le u.base (value heights w) && list_all (is_covered paths w.atoms) u.atoms
+
+-- u <= w; all hold where no valuation meets the constraints
+unfoldable pub at_most : Constraints → UnivExpr → UnivExpr → Bool
+at_most cs u w = not (acyclic cs) || at_most_by (path cs) (height cs) u w
+
+unfoldable pub same : Constraints → UnivExpr → UnivExpr → Bool
+same cs u w = at_most cs u w && at_most cs w u
+
+-- the order of sorts, and both ways
+abbrev pub sort_at_most : Constraints → Sort → Sort → Bool
+sort_at_most cs Prop t = true
+sort_at_most cs (Typ u) Prop = false
+sort_at_most cs (Typ u) (Typ w) = at_most cs u w
+
+abbrev pub sort_same : Constraints → Sort → Sort → Bool
+sort_same cs Prop Prop = true
+sort_same cs Prop (Typ w) = false
+sort_same cs (Typ u) Prop = false
+sort_same cs (Typ u) (Typ w) = same cs u w
