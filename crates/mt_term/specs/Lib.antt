@@ -15,3 +15,8 @@ pub mod EntryOf
 pub mod ReasonOf
 pub mod Universes
 pub mod UniverseOrder
+pub mod States
+pub mod StateCode
+pub mod MetaOf
+pub mod EquationOf
+pub mod NoteOf
