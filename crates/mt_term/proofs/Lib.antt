@@ -1,2 +1,3 @@
+pub mod UniverseOrderLaws
 pub mod FirstSoundness
 mod UniverseExamples

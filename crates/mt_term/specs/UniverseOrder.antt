@@ -1,11 +1,11 @@
 -- The order of universe expressions as a test, by the longest paths of constraints.
-use Rattle.std.specs.Prelude.{ℕ, ◌+◌, ◌-◌, max, Bool, true, false, not, ◌&&◌, ◌||◌, ◌==◌, nat_lt, nat_le, if◌then◌else◌, List, [], ◌∷◌}
-use Rattle.std.specs.List.{list_any, list_all}
+use Rattle.std.specs.Prelude.{ℕ, ◌+◌, ◌-◌, ◌<◌, ◌≤◌, max, Bool, true, false, not, ◌&&◌, ◌||◌, ◌==◌, nat_lt, nat_le, if◌then◌else◌, List, [], ◌∷◌}
+use Rattle.std.specs.List.{All, list_any, list_all}
 use Rattle.mt_term.specs.declared.universes.Atom.{Atom}
 use Rattle.mt_term.specs.declared.universes.UnivExpr.{UnivExpr}
 use Rattle.mt_term.specs.declared.universes.Sort.{Sort}
 use Rattle.mt_term.specs.declared.universes.Sort.TheVariants.{Prop, Typ}
-use Rattle.mt_term.specs.Universes.{Constraints, value}
+use Rattle.mt_term.specs.Universes.{Constraints, Valuation, MeetsAll, value}
 
 -- how many names stand on two paths, one after the other; 0 where one of them is none
 abbrev pub joined : ℕ → ℕ → ℕ
@@ -25,6 +25,14 @@ height (c ∷ cs) b = max (height cs b) (joined (height cs c.0 + 1) (path cs c.1
 unfoldable pub acyclic : Constraints → Bool
 acyclic [] = true
 acyclic (c ∷ cs) = (path cs c.1 c.0 == 0) && acyclic cs
+
+-- what the order is decided by: paths bound every valuation that meets the constraints and grow along each constraint; the heights are the least such valuation
+pub record AreLongest (cs : Constraints) (paths : ℕ → ℕ → ℕ) (heights : ℕ → ℕ) : Type 0 where
+  pub bound : (v : Valuation) → MeetsAll cs v → (a b : ℕ) → 0 < paths a b → v a + paths a b ≤ v b + 1
+  pub itself : (a : ℕ) → 0 < paths a a
+  pub grow : (a : ℕ) → All (λ c. 0 < paths a c.0 → paths a c.0 < paths a c.1) cs
+  pub least : (v : Valuation) → MeetsAll cs v → (b : ℕ) → heights b ≤ v b
+  pub meet : MeetsAll cs heights
 
 -- By path lengths and heights: atom a is at most atom b; atom a is at most one of the atoms; the order itself.
 abbrev pub covers : (ℕ → ℕ → ℕ) → Atom → Atom → Bool
