@@ -20,3 +20,7 @@ pub mod StateCode
 pub mod MetaOf
 pub mod EquationOf
 pub mod NoteOf
+pub mod Stores
+pub mod Contraction
+pub mod Conversion
+pub mod Typing
