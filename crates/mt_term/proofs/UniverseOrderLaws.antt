@@ -9,7 +9,7 @@ use Rattle.mt_term.specs.declared.universes.UnivExpr.{UnivExpr}
 use Rattle.mt_term.specs.declared.universes.Sort.{Sort}
 use Rattle.mt_term.specs.declared.universes.Sort.TheVariants.{Prop, Typ}
 use Rattle.mt_term.specs.Universes.{Constraints, Valuation, MeetsAll, Satisfiable, value_of_atoms, value, IsAtMost, IsSame, SortIsAtMost, SortIsSame}
-use Rattle.mt_term.specs.UniverseOrder.{joined, path, height, acyclic, AreLongest, covers, is_covered, at_most_by, at_most, same, sort_at_most, sort_same}
+use Rattle.mt_term.specs.UniverseOrder.{joined, more_paths, more_heights, path, height, acyclic, AreLongest, covers, is_covered, at_most_by, at_most, same, sort_at_most, sort_same}
 
 pub joined_cases : (m n : ℕ) → ((joined m n ≡ 0) × ((m ≡ 0) ⊎ (n ≡ 0))) ⊎ ((joined m n ≡ m + n) × (0 < m) × (0 < n))
 joined_cases m n = grind (arith, nat_tests)
@@ -18,13 +18,6 @@ joined_cases m n = grind (arith, nat_tests)
 pub value_of_atoms_mono : (h v : Valuation) → ((b : ℕ) → h b ≤ v b) → (xs : List Atom) → value_of_atoms h xs ≤ value_of_atoms v xs
 value_of_atoms_mono h v le [] = omega arith
 value_of_atoms_mono h v le (a ∷ rest) = omega (arith, le a.name, value_of_atoms_mono h v le rest)
-
--- One constraint more.
-abbrev pub more_paths : (ℕ → ℕ → ℕ) → ℕ → ℕ → ℕ → ℕ → ℕ
-more_paths D x y a b = max (D a b) (joined (D a x) (D y b))
-
-abbrev pub more_heights : (ℕ → ℕ → ℕ) → (ℕ → ℕ) → ℕ → ℕ → ℕ → ℕ
-more_heights D h x y b = max (h b) (joined (h x + 1) (D y b) - 1)
 
 pub no_constraints : AreLongest [] (path []) (height [])
 unfolding path height

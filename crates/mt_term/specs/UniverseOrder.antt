@@ -11,15 +11,22 @@ use Rattle.mt_term.specs.Universes.{Constraints, Valuation, MeetsAll, value}
 abbrev pub joined : ℕ → ℕ → ℕ
 joined m n = if (m == 0) || (n == 0) then 0 else m + n
 
+-- Path lengths and heights with one constraint more, which says that x is below y.
+abbrev pub more_paths : (ℕ → ℕ → ℕ) → ℕ → ℕ → ℕ → ℕ → ℕ
+more_paths paths x y a b = max (paths a b) (joined (paths a x) (paths y b))
+
+abbrev pub more_heights : (ℕ → ℕ → ℕ) → (ℕ → ℕ) → ℕ → ℕ → ℕ → ℕ
+more_heights paths heights x y b = max (heights b) (joined (heights x + 1) (paths y b) - 1)
+
 -- how many names stand on the longest path of constraints from name a to name b; 0 where there is none
 unfoldable pub path : Constraints → ℕ → ℕ → ℕ
 path [] a b = if a == b then 1 else 0
-path (c ∷ cs) a b = max (path cs a b) (joined (path cs a c.0) (path cs c.1 b))
+path (c ∷ cs) a b = more_paths (path cs) c.0 c.1 a b
 
 -- how many names stand below name b on the longest path into it
 unfoldable pub height : Constraints → ℕ → ℕ
 height [] b = 0
-height (c ∷ cs) b = max (height cs b) (joined (height cs c.0 + 1) (path cs c.1 b) - 1)
+height (c ∷ cs) b = more_heights (path cs) (height cs) c.0 c.1 b
 
 -- no path of constraints leads back to its beginning
 unfoldable pub acyclic : Constraints → Bool
