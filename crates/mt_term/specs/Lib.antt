@@ -24,3 +24,10 @@ pub mod Stores
 pub mod Contraction
 pub mod Conversion
 pub mod Typing
+pub mod Alike
+pub mod Spines
+pub mod Knot
+pub mod WeakHead
+pub mod Comparison
+pub mod Inference
+pub mod KernelCheck
