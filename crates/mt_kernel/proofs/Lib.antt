@@ -1,0 +1,3 @@
+pub mod Charging
+pub mod Typed
+pub mod Within
