@@ -6,3 +6,15 @@ mod CostExamples
 pub mod Charged
 pub mod KnotLaws
 pub mod WeakHeadLaws
+pub mod Subst
+pub mod Steps
+pub mod Moves
+pub mod Agree
+pub mod Images
+pub mod Follow
+pub mod Known
+pub mod Renames
+pub mod Substs
+pub mod Laws
+pub mod Grow
+pub mod Plain

@@ -31,3 +31,4 @@ pub mod WeakHead
 pub mod Comparison
 pub mod Inference
 pub mod KernelCheck
+pub mod Scopes

@@ -5,7 +5,7 @@ use Rattle.mt_term.specs.declared.universes.Sort.{Sort as AnySort}
 use Rattle.mt_term.specs.declared.universes.Sort.TheVariants.{Prop, Typ}
 use Rattle.mt_term.specs.declared.universes.UnivExpr.{UnivExpr}
 use Rattle.mt_term.specs.Universes.{Valuation, value}
-use Rattle.mt_term.specs.Substitution.{up_ren, up_rens, ren, ren_all, ren_arms, sub, one, fill, beyond, under, apps, join, count}
+use Rattle.mt_term.specs.Substitution.{up_ren, up_rens, ren, ren_all, ren_arms, ups, tr, tr_all, tr_arms, sub, one, fill, beyond, under, apps, join, count}
 use Rattle.mt_term.specs.Declarations.{Constructor, Declaration, Axiom, Definition, Inductive, Recursive, Environment, declared_type}
 use Rattle.mt_term.specs.Stores.{Declared, Store, no_store, AllMetas, AllMetasIn, AllMetasArms, AllMetasOf, InStore}
 use Rattle.mt_term.specs.Contraction.{products, ConstructorOf, Contracts}
@@ -49,6 +49,20 @@ ren_claim ξ (Has t T) = Has (ren ξ t) (ren ξ T)
 ren_claim ξ (Stands t) = Stands (ren ξ t)
 ren_claim ξ (Fitting e R ps k bs) = Fitting e (ren ξ R) (ren_all ξ ps) k (ren_arms ξ bs)
 ren_claim ξ (Body e p R c T xs b) = Body e p (ren ξ R) (ren ξ c) (ren ξ T) xs (ren (up_rens xs ξ) b)
+
+-- a claim with its variables and metavariables transformed
+abbrev pub tr_claim : (ℕ → Trees → Tree) → (ℕ → Tree) → Claim → Claim
+tr_claim f σ IsContext = IsContext
+tr_claim f σ (IsType T) = IsType (tr f σ T)
+tr_claim f σ (Has t T) = Has (tr f σ t) (tr f σ T)
+tr_claim f σ (Stands t) = Stands (tr f σ t)
+tr_claim f σ (Fitting e R ps k bs) = Fitting e (tr f σ R) (tr_all f σ ps) k (tr_arms f σ bs)
+tr_claim f σ (Body e p R c T xs b) = Body e p (tr f σ R) (tr f σ c) (tr f σ T) xs (tr f (ups xs σ) b)
+
+-- each hypothesis's type transformed, as it stands under the ones before it
+abbrev pub tr_context : (ℕ → Trees → Tree) → List Tree → List Tree
+tr_context f [] = []
+tr_context f (A ∷ Γ) = tr f Var A ∷ tr_context f Γ
 
 -- each metavariable that stands in a claim is in a set
 abbrev pub ClaimMetas : (ℕ → Type 0) → Claim → Type 0
