@@ -14,6 +14,8 @@ mod refusals;
 mod states;
 mod stores;
 mod terms;
+#[cfg(test)]
+mod tests;
 mod universes;
 
 pub use constructors::{Cons, Constructor};

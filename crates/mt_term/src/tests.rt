@@ -1,0 +1,110 @@
+// Each public call once, with ample memory.
+use crate::{
+    Atom, Atoms, Branch, Branches, Cons, Constructor, Entries, Entry, GoalMarks, Hyp, Hyps, Metas,
+    Name, Names, Note, Notes, Pairs, PlainEq, PlainEqs, PlainMeta, Refusal, Sort, Term, Terms,
+    UnivExpr, copy,
+};
+use std::alloc::{AllocError, Global};
+use std::test::Fail;
+
+fn name(alloc: Global) -> Result<Name, AllocError> {
+    Name::from_bytes(alloc, b"x")
+}
+
+// `λx:Type[a+1].match x return ?0[x] with [ x ⇒ x ]`
+fn sample(alloc: Global) -> Result<Term, Fail> {
+    let mut atoms = Atoms::new(alloc);
+    atoms.push(Atom { name: 0, offset: 1 })?;
+    let sort = Term::Sort(Sort::Typ(UnivExpr { base: 0, atoms }));
+    let mut names = Names::new(alloc);
+    names.push(name(alloc)?)?;
+    let branch = Branch {
+        names,
+        body: Term::Var(0),
+    };
+    let branches = Branches::Item(Box::new(alloc, branch)?, Box::new(alloc, Branches::End)?);
+    let terms = Terms::Item(Box::new(alloc, Term::Var(0))?, Box::new(alloc, Terms::End)?);
+    let body = Term::Match(
+        0,
+        Box::new(alloc, Term::Meta(0, terms))?,
+        Box::new(alloc, Term::Var(0))?,
+        branches,
+    );
+    Ok(Term::Lam(name(alloc)?, Box::new(alloc, sort)?, Box::new(alloc, body)?))
+}
+
+#[test]
+fn a_term_is_copied(rt: HostRuntime) -> Result<(), Fail> {
+    let alloc = rt.alloc();
+    let term = sample(alloc)?;
+    let twin = copy(alloc, &term)?;
+    assert!(rt; matches!(&twin, Term::Lam(x, _, _) if x.as_bytes() == b"x".as_slice()));
+    Ok(())
+}
+
+#[test]
+fn entries_and_hypotheses_are_lists(rt: HostRuntime) -> Result<(), Fail> {
+    let alloc = rt.alloc();
+    let mut cons = Cons::new(alloc);
+    cons.push(Constructor {
+        name: name(alloc)?,
+        ty: Term::Ind(0),
+    })?;
+    assert!(rt; cons.len() == 1 && cons.get(0).is_some());
+    let mut entries = Entries::new(alloc);
+    entries.push(Entry::Axiom {
+        name: name(alloc)?,
+        ty: Term::Sort(Sort::Prop),
+    })?;
+    assert!(rt; entries.len() == 1 && entries.get(1).is_none());
+    let mut hyps = Hyps::new(alloc);
+    hyps.push(Hyp {
+        name: name(alloc)?,
+        ty: Term::Var(0),
+    })?;
+    assert!(rt; hyps.len() == 1 && hyps.get(0).is_some());
+    let mut pairs = Pairs::new(alloc);
+    pairs.push((0, 1))?;
+    assert!(rt; pairs.len() == 1 && pairs.get(0) == Some(&(0, 1)));
+    Ok(())
+}
+
+#[test]
+fn states_hold_lists(rt: HostRuntime) -> Result<(), Fail> {
+    let alloc = rt.alloc();
+    let mut metas = Metas::new(alloc);
+    metas.push(PlainMeta {
+        context: Hyps::new(alloc),
+        ty: Term::Sort(Sort::Prop),
+        body: None,
+    })?;
+    assert!(rt; metas.len() == 1 && metas.get(0).is_some());
+    let mut eqs = PlainEqs::new(alloc);
+    eqs.push(PlainEq {
+        place: 0,
+        term: Term::Const(0),
+    })?;
+    assert!(rt; eqs.len() == 1 && eqs.get(0).is_some());
+    let mut notes = Notes::new(alloc);
+    notes.push(Note::Coercion(name(alloc)?))?;
+    assert!(rt; notes.len() == 1 && notes.get(0).is_some());
+    let mut goals = GoalMarks::new(alloc);
+    goals.push((0, true))?;
+    assert!(rt; goals.len() == 1 && goals.get(0) == Some(&(0, true)));
+    Ok(())
+}
+
+#[test]
+fn refusals_have_their_numbers(rt: HostRuntime) -> Result<(), Fail> {
+    let alloc = rt.alloc();
+    let refusal = Refusal::Mismatch {
+        context: Hyps::new(alloc),
+        inferred: Term::Sort(Sort::Prop),
+        expected: Term::Sort(Sort::Prop),
+        known: Entries::new(alloc),
+    };
+    assert_eq!(rt; refusal.number(), 7);
+    assert_eq!(rt; Refusal::Taken(name(alloc)?).number(), 6);
+    assert_eq!(rt; Refusal::KernelRefused(7).number(), 22);
+    Ok(())
+}
