@@ -18,3 +18,5 @@ pub mod Substs
 pub mod Laws
 pub mod Grow
 pub mod Plain
+pub mod ComparisonLaws
+pub mod InferenceLaws
