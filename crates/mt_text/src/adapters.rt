@@ -1,5 +1,5 @@
 // Readers and writers of std as a source and a sink: the trusted edge, since no proof says what a file or a terminal does.
-ghost use Rattle.std.specs.Prelude.{◌≡◌, ℕ};
+ghost use Rattle.std.specs.Prelude.{◌≡◌};
 ghost use Rattle.std.specs.Io.{ReadsAtMost, WritesAtMost};
 ghost use Rattle.std.specs.Io.KnownBytes.{ReadConsumes, WriteAppends};
 ghost use Rattle.mt_text.specs.Causes.{HasCause, IsCounted, WritesSome};

@@ -1,12 +1,12 @@
 // A source and a sink in memory, which fail at listed calls.
-ghost use Rattle.std.specs.Prelude.{◌≡◌, ◌<◌, ◌≤◌, ◌↔◌, ◌+◌, ◌-◌, ◌^◌, ◌⊎◌, ◌++◌, ℕ, [], List, length, take, drop, min, IfOk, OnOk, OnErr, IsErr, IsTrue, Contains};
+ghost use Rattle.std.specs.Prelude.{◌≡◌, ◌<◌, ◌≤◌, ◌↔◌, ◌-◌, ◌⊎◌, [], length, min, IfOk, IsErr, IsTrue, Contains};
 ghost use Rattle.std.specs.Io.{ReadsAtMost, WritesAtMost};
 ghost use Rattle.std.specs.Io.KnownBytes.{ReadConsumes, WriteAppends};
-ghost use Rattle.std.specs.declared.option.Option.{Option};
 ghost use Rattle.std.specs.declared.option.Option.TheVariants.{Some};
 ghost use Rattle.mt_text.specs.Causes.{HasCause, IsCounted, WritesSome};
 ghost use Rattle.mt_text.specs.Devices.{SourceView, SinkView, next_turn};
 
+use crate::copying::copy_piece;
 use crate::{Failed, OutOfMemory, Sink, Source};
 use std::alloc::Global;
 use std::marker::Model;
@@ -170,25 +170,4 @@ fn is_listed(listed: &[u64], number: u128) -> bool
         Ok(small) => listed.contains(&small),
         Err(_) => false,
     }
-}
-
-// Copies the bytes from `at` on, as many of them as a piece and the buffer hold.
-#[tactic(auto, using(crate::proofs::Pieces::front_moved))]
-pub fn copy_piece(bytes: &[u8], at: usize, piece: usize, to: &mut [u8]) -> usize
-    requires { at ≤ length bytes.now }
-    ensures count { result ≡ min piece (min (length bytes.now - at) (length to.old)) }
-    ensures bytes { drop at bytes.now ≡ take result to.new ++ drop (at + result) bytes.now }
-    ensures end { 0 < piece → result ≡ 0 → 0 < length to.new → drop (at + result) bytes.now ≡ [] }
-{
-    copy_front(&bytes[at..], piece, to)
-}
-
-// Copies the front of `from`, as much of it as a piece and the buffer hold.
-fn copy_front(from: &[u8], piece: usize, to: &mut [u8]) -> usize
-    ensures count { result ≡ min piece (min (length from.now) (length to.old)) }
-    ensures bytes { take result to.new ≡ take result from.now }
-{
-    let count = piece.min(from.len().min(to.len()));
-    to[..count].copy_from_slice(&from[..count]);
-    count
 }
