@@ -20,3 +20,4 @@ pub mod Grow
 pub mod Plain
 pub mod ComparisonLaws
 pub mod InferenceLaws
+pub mod Matching
