@@ -32,3 +32,8 @@ pub mod Comparison
 pub mod Inference
 pub mod KernelCheck
 pub mod Scopes
+pub mod Positivity
+pub mod Guard
+pub mod SoundEnvironment
+pub mod Instances
+pub mod SoundStore
