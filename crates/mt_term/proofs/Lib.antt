@@ -21,3 +21,5 @@ pub mod Plain
 pub mod ComparisonLaws
 pub mod InferenceLaws
 pub mod Matching
+pub mod AlikeLaws
+pub mod EnvironmentLaws
