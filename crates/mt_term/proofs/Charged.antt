@@ -2,7 +2,7 @@
 use Rattle.std.specs.Prelude.{ℕ, zero, suc, ◌≡◌, ◌+◌, ◌≤◌, refl, Bool, true, false, if◌then◌else◌}
 use Rattle.std.proofs.Common.{zero-add, ◌∙◌, ap, arith}
 use Rattle.mt_term.specs.Declarations.{Reason}
-use Rattle.mt_term.specs.Charges.{Outcome, Done, Refused, Spent, Charged, give, refuse, ◌>>=◌, charge, tried, and_then, or_else}
+use Rattle.mt_term.specs.Charges.{Outcome, Done, Refused, Spent, Charged, give, refuse, ◌>>=◌, charge, tried, and_then, or_else, rest}
 
 -- from n of an allowance the first came to an outcome; with i more the other comes to the same with i more left,
 -- and, where i is 0, it is spent where the first is
@@ -69,12 +69,6 @@ pub if-agree : {A : Type 0} (k i : ℕ) (b : Bool) (m m' r r' : Charged A) → A
 if-agree k i true m m' r r' h s = h
 if-agree k i false m m' r r' h s = s
 
--- what is left of the allowance, nothing where it is spent
-abbrev pub rest : {A : Type 0} → Outcome A → ℕ
-rest (Done a left) = left
-rest (Refused r left) = left
-rest Spent = zero
-
 -- no more is left than was given
 pub tied-rest : {A : Type 0} (n : ℕ) (o o' : Outcome A) → Tied n 0 o o' → rest o ≤ n
 tied-rest n (Done a left) o' t = t.0
@@ -83,6 +77,12 @@ tied-rest n Spent o' t = omega arith
 
 pub agree-rest : {A : Type 0} (m : Charged A) (n : ℕ) → Agree n 0 m m → rest (m n) ≤ n
 agree-rest m n h = tied-rest n _ _ (h.at n (omega arith))
+
+-- sequences in a row
+pub then-then : {A B C : Type 0} (o : Outcome A) (f : A → Charged B) (g : B → Charged C) → and_then (and_then o f) g ≡ and_then o (λ a l. and_then (f a l) g)
+then-then (Done a left) f g = refl
+then-then (Refused r left) f g = refl
+then-then Spent f g = refl
 
 -- a sequence leaves no more than its first part
 pub then-rest : {A B : Type 0} (o : Outcome A) (f : A → Charged B) → ((a : A) (l : ℕ) → rest (f a l) ≤ l) → rest (and_then o f) ≤ rest o

@@ -3,13 +3,13 @@ use Rattle.std.specs.Prelude.{ℕ, zero, suc, ◌≡◌, ◌+◌, ◌≤◌, Boo
 use Rattle.std.proofs.Common.{arith}
 use Rattle.mt_term.specs.Trees.{Tree, Trees, Arms, Var, Sort, Prod, Lam, App, Const, Ind, Con, Match, Meta, End, Item, NoArm, Arm}
 use Rattle.mt_term.specs.Declarations.{Environment}
-use Rattle.mt_term.specs.Charges.{Charged}
+use Rattle.mt_term.specs.Charges.{Charged, rest}
 use Rattle.mt_term.specs.Universes.{Constraints}
 use Rattle.mt_term.specs.Stores.{Store}
 use Rattle.mt_term.specs.Alike.{is_alike}
 use Rattle.mt_term.specs.Comparison.{Question, and_next, ◌and◌, same_shapes, same_terms, same_bodies, same_spine, same_heads, convert_in, convert_by, compared, convert, heads, spines, terms, bodies}
 use Rattle.mt_term.specs.declared.modes.Mode.{Mode}
-use Rattle.mt_term.proofs.Charged.{Tied, Agree, AgreeAfter, give-agree, charge-agree, then-agree, if-agree, agree-rest, rest}
+use Rattle.mt_term.proofs.Charged.{Tied, Agree, AgreeAfter, give-agree, charge-agree, then-agree, if-agree, agree-rest}
 use Rattle.mt_term.proofs.KnotLaws.{IsCharged, fixed-agree, fixed-is}
 use Rattle.mt_term.proofs.WeakHeadLaws.{whd-agree}
 

@@ -3,7 +3,7 @@ use Rattle.std.specs.Prelude.{ℕ, zero, suc, ◌+◌, ◌≤◌, List, [], ◌�
 use Rattle.std.proofs.Common.{arith}
 use Rattle.mt_term.specs.Trees.{Tree, Trees, Arms, Var, Sort, Prod, Lam, App, Const, Ind, Con, Match, Meta, End, Item, NoArm, Arm}
 use Rattle.mt_term.specs.Declarations.{Hypothesis, Constructor, Environment}
-use Rattle.mt_term.specs.Charges.{Charged, ◌>>=◌, charge}
+use Rattle.mt_term.specs.Charges.{Charged, ◌>>=◌, charge, rest}
 use Rattle.mt_term.specs.Spines.{at_args}
 use Rattle.mt_term.specs.Substitution.{apps, count}
 use Rattle.mt_term.specs.Stores.{Store, no_store}
@@ -13,7 +13,7 @@ use Rattle.mt_term.specs.KernelCheck.{check_type, check}
 use Rattle.mt_term.specs.declared.modes.Mode.{Mode}
 use Rattle.mt_term.specs.declared.modes.Mode.TheVariants.{AtMost}
 use Rattle.mt_term.specs.declared.universes.Sort.{Sort as AnySort}
-use Rattle.mt_term.proofs.Charged.{Tied, Agree, give-agree, refuse-agree, charge-agree, then-agree, agree-rest, rest}
+use Rattle.mt_term.proofs.Charged.{Tied, Agree, give-agree, refuse-agree, charge-agree, then-agree, agree-rest}
 use Rattle.mt_term.proofs.WeakHeadLaws.{whd-agree}
 use Rattle.mt_term.proofs.ComparisonLaws.{convert-agree}
 

@@ -23,3 +23,4 @@ pub mod InferenceLaws
 pub mod Matching
 pub mod AlikeLaws
 pub mod EnvironmentLaws
+pub mod WeakHeadRules

@@ -4,11 +4,11 @@ use Rattle.std.proofs.Common.{ap, arith}
 use Rattle.mt_term.specs.Trees.{Tree, Trees, Arms, Var, Sort, Prod, Lam, App, Const, Ind, Con, Match, Meta, End, Item, NoArm, Arm}
 use Rattle.mt_term.specs.Substitution.{apps}
 use Rattle.mt_term.specs.Declarations.{Declaration, Definition, Recursive, Environment}
-use Rattle.mt_term.specs.Charges.{Charged, give, ◌>>=◌}
+use Rattle.mt_term.specs.Charges.{Charged, give, ◌>>=◌, rest}
 use Rattle.mt_term.specs.Spines.{on_args}
 use Rattle.mt_term.specs.Stores.{Store}
 use Rattle.mt_term.specs.WeakHead.{Arg, plain, full_con, matched, beta, body_of, body_under, opened, unfolded, follow, look_by, whd_by, whd, beside, look, paid, step, follow_or, parts_by, all_by, arms_by, normal_by, normal}
-use Rattle.mt_term.proofs.Charged.{Tied, Agree, AgreeAfter, give-agree, charge-agree, then-agree, agree-rest, rest}
+use Rattle.mt_term.proofs.Charged.{Tied, Agree, AgreeAfter, give-agree, charge-agree, then-agree, agree-rest}
 use Rattle.mt_term.proofs.KnotLaws.{IsCharged, fixed-agree, fixed-is}
 
 -- the arguments are the same, and their weak heads agree

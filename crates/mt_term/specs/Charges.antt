@@ -40,3 +40,9 @@ or_else Spent m = Spent
 -- a tried part: where it is refused, the charges stay spent and the other goes on
 abbrev pub tried : {A : Type 0} → Charged A → Charged A → Charged A
 tried m other n = or_else (m n) other
+
+-- what is left of the allowance, nothing where it is spent
+abbrev pub rest : {A : Type 0} → Outcome A → ℕ
+rest (Done a left) = left
+rest (Refused r left) = left
+rest Spent = zero

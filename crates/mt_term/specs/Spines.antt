@@ -51,3 +51,15 @@ abbrev pub first_of : ℕ → Trees → Option Trees
 first_of zero s = Some End
 first_of (suc p) End = None
 first_of (suc p) (Item t s) = with_first t (first_of p s)
+
+-- the term at a place, from 0
+abbrev pub item_at : Trees → ℕ → Option Tree
+item_at End i = None
+item_at (Item t s) zero = Some t
+item_at (Item t s) (suc i) = item_at s i
+
+-- the terms with another at a place
+abbrev pub put_at : ℕ → Tree → Trees → Trees
+put_at i u End = End
+put_at zero u (Item t s) = Item u s
+put_at (suc i) u (Item t s) = Item t (put_at i u s)

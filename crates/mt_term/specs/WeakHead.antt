@@ -5,7 +5,7 @@ use Rattle.mt_term.specs.Substitution.{sub, one, fill, under, apps, all_but, cou
 use Rattle.mt_term.specs.Declarations.{Constructor, Declaration, Definition, Inductive, Recursive, Environment, constructor_at}
 use Rattle.mt_term.specs.Charges.{Charged, give, ◌>>=◌, charge}
 use Rattle.mt_term.specs.Knot.{fixed}
-use Rattle.mt_term.specs.Spines.{as_con, as_const, on_args, with_first}
+use Rattle.mt_term.specs.Spines.{as_con, as_const, on_args, with_first, put_at}
 use Rattle.mt_term.specs.Stores.{Declared, Store}
 use Rattle.mt_term.specs.Contraction.{products}
 
@@ -104,6 +104,10 @@ abbrev pub unfolded : List Declaration → Option Declaration → List Arg → C
 unfolded es (Some (Definition x t b)) vs = give (Some (apps b (plain vs)))
 unfolded es (Some (Recursive x false n r t b made)) vs = opened es r vs >>= (λ o. give (on_opened b o))
 unfolded es _ vs = give None
+
+-- what a recursive function of this place and body becomes on arguments, where the one at the place has this weak head
+abbrev pub recursive_step : List Declaration → ℕ → Tree → Trees → Tree → Option Tree
+recursive_step es r b s d = if is_some (full_con es d) then Some (apps b (put_at r d s)) else None
 
 -- goes on from a step, where there is one, for one charge
 abbrev pub follow : (Tree → Charged Tree) → Tree → Option Tree → Charged Tree
