@@ -1,3 +1,7 @@
-pub mod Columns
 pub mod Tokens
 pub mod Units
+pub mod Columns
+pub mod Output
+pub mod Runs
+pub mod Steps
+pub mod Served

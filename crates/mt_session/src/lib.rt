@@ -4,4 +4,9 @@
 mod columns;
 mod lookup;
 mod parsing;
+mod printing;
+mod running;
+mod serving;
 mod tokens;
+
+pub use serving::{Status, serve};

@@ -1,0 +1,60 @@
+-- From what was read to what is written.
+use Rattle.std.proofs.Common.{◌≡◌, ◌<◌, ◌≤◌, ℕ, ◌+◌, Bool, true, false, List, [], ◌++◌, length, take, Option, Some, None, IfSome, refl, ap, ◌∙◌, sym, subst, arith, append-nil, length-append}
+use Rattle.std.specs.Prelude.{if◌then◌else◌, nat_lt}
+use Rattle.std.specs.Str.{is_utf8, IsUtf8}
+use Rattle.std.proofs.lemmas.Str.{is_utf8-from_IsUtf8, IsUtf8-from_is_utf8}
+use Rattle.std.proofs.lemmas.Bool.Decides.{nat_tests}
+use Rattle.std.specs.Io.KnownBytes.{Appends}
+use Rattle.std.proofs.KnownBytes.{Appends-nil}
+use Rattle.mt_text.specs.Causes.{AppendsPrefix}
+use Rattle.mt_session.specs.declared.serving.Status.{Status}
+use Rattle.mt_session.specs.declared.serving.Status.TheVariants.{Done, Refused, BadFrame}
+use Rattle.mt_session.specs.Runs.{Run, run, run_text, is_clean, is_script, output_of, status_of, most}
+
+pub script_short : (b : List ℕ) → length b ≤ most → is_script b ≡ is_utf8 b
+script_short b le = let e : nat_lt most (length b) ≡ false = grind (arith, nat_tests) in ap (λ t. if t then false else is_utf8 b) e
+
+pub script_long : (b : List ℕ) → most < length b → is_script b ≡ false
+script_long b lt = let e : nat_lt most (length b) ≡ true = grind (arith, nat_tests) in ap (λ t. if t then false else is_utf8 b) e
+
+-- bytes that are no script
+pub bad_status : (b : List ℕ) → is_script b ≡ false → BadFrame ≡ status_of b
+bad_status b e = sym (ap (λ t. if t then (if is_clean (run b).fault then Done else Refused) else BadFrame) e)
+
+pub bad_output : (b : List ℕ) (a : Option (List ℕ)) → is_script b ≡ false → Appends a a (output_of b)
+bad_output b a e = subst (Appends a a) (sym (ap (λ t. if t then run_text b (run b) else []) e)) (Appends-nil a)
+
+-- a script
+pub good_status : (b : List ℕ) (clean : Bool) → is_script b ≡ true → clean ≡ is_clean (run b).fault → (if clean then Done else Refused) ≡ status_of b
+good_status b clean e c =
+    ap (λ t. if t then Done else Refused) c ∙ sym (ap (λ t. if t then (if is_clean (run b).fault then Done else Refused) else BadFrame) e)
+
+pub good_output : (b text : List ℕ) → is_script b ≡ true → text ≡ run_text b (run b) → text ≡ output_of b
+good_output b text e t = t ∙ sym (ap (λ t. if t then run_text b (run b) else []) e)
+
+-- nothing is a prefix
+pub prefix_none : (a : Option (List ℕ)) (bs : List ℕ) → AppendsPrefix a a bs
+prefix_none a bs = (0, omega arith, Appends-nil a)
+
+pub if_known : (o : Option (List ℕ)) (x : List ℕ) (P : List ℕ → Type 0) → IfSome o (λ b. x ≡ b) → P x → IfSome o P
+if_known None x P e p = tt
+if_known (Some b) x P e p = subst P e p
+
+pub if_any : (o : Option (List ℕ)) (P : List ℕ → Type 0) → ((b : List ℕ) → P b) → IfSome o P
+if_any None P p = tt
+if_any (Some b) P p = p b
+
+pub if_such : (o : Option (List ℕ)) (Q P : List ℕ → Type 0) → ((b : List ℕ) → Q b → P b) → IfSome o Q → IfSome o P
+if_such None Q P f q = tt
+if_such (Some b) Q P f q = f b q
+
+pub false_from : (t : Bool) → (t ≡ true → ⊥) → t ≡ false
+false_from true f = absurd (f refl)
+false_from false f = refl
+
+-- a text within the limit is a script, and other bytes are none
+pub text_is_script : (b : List ℕ) → IsUtf8 b → length b ≤ most → is_script b ≡ true
+text_is_script b u le = script_short b le ∙ is_utf8-from_IsUtf8 b u
+
+pub other_is_none : (b : List ℕ) → ¬ (IsUtf8 b) → length b ≤ most → is_script b ≡ false
+other_is_none b wrong le = script_short b le ∙ false_from (is_utf8 b) (λ t. wrong (IsUtf8-from_is_utf8 b t))

@@ -1,0 +1,17 @@
+use Rattle.std.proofs.Common.{◌∙◌, subst}
+use Rattle.std.specs.Io.KnownBytes.{Appends}
+use Rattle.mt_text.specs.Causes.{AppendsPrefix}
+use Rattle.mt_session.proofs.Endings.{text_is_script, good_status, good_output}
+use Rattle.mt_session.proofs.serving.reported.Goals as goal
+
+pub returns-in-Ok-clause-whole : goal.returns-in-Ok-clause-whole
+returns-in-Ok-clause-whole g c = λ w.
+    let yes = text_is_script _ c.utf8.text c.requires in
+    let h = c.written.ensures.whole w in
+    (h.0 ∙ good_status _ _ yes c.in-Ok.ensures.clean, subst (Appends _ _) (good_output _ _ yes c.in-Ok.ensures.text) h.1)
+
+pub returns-in-Ok-clause-cut : goal.returns-in-Ok-clause-cut
+returns-in-Ok-clause-cut g c = λ w.
+    let yes = text_is_script _ c.utf8.text c.requires in
+    let h = c.written.ensures.cut w in
+    subst (AppendsPrefix _ _) (good_output _ _ yes c.in-Ok.ensures.text) h.1

@@ -1,0 +1,33 @@
+-- Kinds of endings.
+use Rattle.std.specs.Prelude.{ℕ}
+use Rattle.mt_session.specs.declared.serving.Status.{Status}
+use Rattle.mt_session.specs.declared.serving.Status.TheVariants.{Done, Refused, Usage, BadFrame, ReadFault, WriteFault, OutOfMemory}
+
+-- the input was read to its end, or as far as decides the run, and all was written
+abbrev pub IsWhole : Status → Type 0
+IsWhole Done = Unit {0}
+IsWhole Refused = Unit {0}
+IsWhole BadFrame = Unit {0}
+IsWhole _ = ⊥
+
+-- the run was cut off after its input was read, or for want of memory
+abbrev pub IsCut : Status → Type 0
+IsCut WriteFault = Unit {0}
+IsCut OutOfMemory = Unit {0}
+IsCut _ = ⊥
+
+-- an ending after the input was read
+abbrev pub IsAnswer : Status → Type 0
+IsAnswer Usage = ⊥
+IsAnswer ReadFault = ⊥
+IsAnswer _ = Unit {0}
+
+-- the exit status of the program
+abbrev pub code_of : Status → ℕ
+code_of Done = 0
+code_of Refused = 1
+code_of Usage = 2
+code_of BadFrame = 3
+code_of ReadFault = 5
+code_of WriteFault = 6
+code_of OutOfMemory = 7
