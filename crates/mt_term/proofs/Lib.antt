@@ -24,3 +24,5 @@ pub mod Matching
 pub mod AlikeLaws
 pub mod EnvironmentLaws
 pub mod WeakHeadRules
+pub mod ComparisonRules
+pub mod ComparisonApart
