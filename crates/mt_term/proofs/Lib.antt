@@ -26,3 +26,4 @@ pub mod EnvironmentLaws
 pub mod WeakHeadRules
 pub mod ComparisonRules
 pub mod ComparisonApart
+pub mod DerivationLaws

@@ -37,3 +37,4 @@ pub mod Guard
 pub mod SoundEnvironment
 pub mod Instances
 pub mod SoundStore
+pub mod Laws

@@ -3,6 +3,7 @@
 
 mod constructors;
 mod copies;
+pub mod derivations;
 mod entries;
 mod environment;
 mod equations;

@@ -1,0 +1,64 @@
+-- The laws over derivations, as statements.
+use Rattle.std.specs.Prelude.{◌≡◌, ℕ, Bool, List, ◌∷◌, Some, slice_get}
+use Rattle.mt_term.specs.declared.universes.UnivExpr.{UnivExpr}
+use Rattle.mt_term.specs.Universes.{IsAtMost}
+use Rattle.mt_term.specs.Trees.{Tree, Trees, Var, Meta}
+use Rattle.mt_term.specs.Substitution.{tr, fill, beyond, under, one}
+use Rattle.mt_term.specs.Declarations.{Declaration, Environment}
+use Rattle.mt_term.specs.Stores.{Declared, Store, Owned, Extends}
+use Rattle.mt_term.specs.Typing.{Look, Insert, ins, Claim, IsContext, IsType, Has, ren_claim, tr_claim, tr_context, Holds, Strict}
+use Rattle.mt_term.specs.Scopes.{PlainContext, PlainClaim}
+use Rattle.mt_term.specs.SoundEnvironment.{SoundEnvironment}
+
+-- the context of a judgement is a context
+abbrev pub ContextLaw : Type 0
+ContextLaw = (E : Environment) (w : Bool) (S : Store) (Γ : List Tree) (J : Claim) → Holds E w S Γ J → Holds E w S Γ IsContext
+
+-- weakening: with a hypothesis put in at any place, which is a type there, a judgement holds
+abbrev pub WeakeningLaw : Type 0
+WeakeningLaw = (E : Environment) → SoundEnvironment E → (w : Bool) (S : Store) → Owned S → (A : Tree) (Δ : List Tree) (k : ℕ) (Γ Γ' : List Tree) (J : Claim) → Insert A Δ k Γ Γ' → Holds E w S Δ (IsType A) → Holds E w S Γ J → Holds E w S Γ' (ren_claim (ins k) J)
+
+-- substitution: each judgement in a context holds in another under terms that have there the types of its hypotheses under the earlier terms
+abbrev pub SubstitutionLaw : Type 0
+SubstitutionLaw = (E : Environment) → SoundEnvironment E → (w : Bool) (S : Store) → Owned S → (Γ Δ : List Tree) (s : Trees) (J : Claim) → Holds E w S Δ IsContext
+    → ((i : ℕ) (T : Tree) → Look Γ i T → Holds E w S Δ (Has (fill s beyond i) (under s T))) → Holds E w S Γ J → Holds E w S Δ (tr_claim Meta (fill s beyond) J)
+
+-- substitution of one term for the innermost hypothesis
+abbrev pub OneTermLaw : Type 0
+OneTermLaw = (E : Environment) → SoundEnvironment E → (w : Bool) (S : Store) → Owned S → (Γ : List Tree) (A a : Tree) (J : Claim) → Holds E w S Γ (Has a A) → Holds E w S (A ∷ Γ) J → Holds E w S Γ (tr_claim Meta (one a) J)
+
+-- growth: a judgement holds over an environment with the same entries and further ones, whose constraints give at least the same order
+abbrev pub GrowthLaw : Type 0
+GrowthLaw = (E E' : Environment) → ((c : ℕ) (d : Declaration) → slice_get (E.entries) c ≡ Some d → slice_get (E'.entries) c ≡ Some d) → ((U V : UnivExpr) → IsAtMost (E.below) U V → IsAtMost (E'.below) U V)
+    → (w : Bool) (S : Store) (Γ : List Tree) (J : Claim) → Holds E w S Γ J → Holds E' w S Γ J
+
+-- a strict judgement holds over any store, dropping allowed or not
+abbrev pub StrictLaw : Type 0
+StrictLaw = (E : Environment) → SoundEnvironment E → (w : Bool) (S : Store) (Γ : List Tree) (J : Claim) → Strict E Γ J → Holds E w S Γ J
+
+-- a strict judgement speaks of its context's variables alone, and of no metavariable
+abbrev pub ScopeLaw : Type 0
+ScopeLaw = (E : Environment) → SoundEnvironment E → (Γ : List Tree) (J : Claim) → Strict E Γ J → PlainContext Γ × PlainClaim Γ J
+
+-- a judgement holds over a store that extends its own
+abbrev pub ExtensionLaw : Type 0
+ExtensionLaw = (E : Environment) → SoundEnvironment E → (w : Bool) (S S' : Store) → Owned S → Extends S S' → (Γ : List Tree) (J : Claim) → Holds E w S Γ J → Holds E w S' Γ J
+
+-- metavariables under new numbers
+abbrev pub renumbered : (ℕ → ℕ) → ℕ → Trees → Tree
+renumbered μ n s = Meta (μ n) s
+
+-- a term with its metavariables under new numbers
+abbrev pub renumber : (ℕ → ℕ) → Tree → Tree
+renumber μ t = tr (renumbered μ) Var t
+
+-- a metavariable has, with new numbers, the context and type of another, and its body where it has one
+pub record Renumbered (μ : ℕ → ℕ) (d c : Declared) : Type 0 where
+  pub context : c.context ≡ tr_context (renumbered μ) (d.context)
+  pub ty : c.ty ≡ renumber μ (d.ty)
+  pub body : (b : Tree) → d.body ≡ Some b → c.body ≡ Some (renumber μ b)
+
+-- new numbers: a judgement holds, with these, over a store that has each metavariable of its own store under its new number
+abbrev pub RenumberingLaw : Type 0
+RenumberingLaw = (E : Environment) → SoundEnvironment E → (w : Bool) (S S' : Store) → Owned S → (μ : ℕ → ℕ) → ((n : ℕ) (d : Declared) → S.at n ≡ Some d → (c : Declared) × (S'.at (μ n) ≡ Some c) × Renumbered μ d c)
+    → (Γ : List Tree) (J : Claim) → Holds E w S Γ J → Holds E w S' (tr_context (renumbered μ) Γ) (tr_claim (renumbered μ) Var J)

@@ -1,0 +1,47 @@
+// The laws over derivations: each function does nothing, and its clause is the law.
+ghost use Rattle.mt_term.specs.Laws.{ContextLaw, WeakeningLaw, SubstitutionLaw, OneTermLaw, GrowthLaw, StrictLaw, ScopeLaw, ExtensionLaw, RenumberingLaw};
+
+/// The context of a judgement is a context.
+pub fn context_of_judgement()
+    ensures law { ContextLaw }
+{}
+
+/// A judgement holds with a further hypothesis at any place.
+pub fn weakening()
+    ensures law { WeakeningLaw }
+{}
+
+/// A judgement holds under terms for the hypotheses of its context.
+pub fn substitution()
+    ensures law { SubstitutionLaw }
+{}
+
+/// A judgement holds with a term for its innermost hypothesis.
+pub fn one_term()
+    ensures law { OneTermLaw }
+{}
+
+/// A judgement holds over a larger environment.
+pub fn growth_of_environment()
+    ensures law { GrowthLaw }
+{}
+
+/// A strict judgement holds over any store, dropping allowed or not.
+pub fn strict_implies_any()
+    ensures law { StrictLaw }
+{}
+
+/// A strict judgement speaks of its context's variables alone, and of no metavariable.
+pub fn scope_of_strict()
+    ensures law { ScopeLaw }
+{}
+
+/// A judgement holds over a store that extends its own.
+pub fn extension_of_store()
+    ensures law { ExtensionLaw }
+{}
+
+/// A judgement holds with its metavariables under new numbers.
+pub fn renumbering()
+    ensures law { RenumberingLaw }
+{}
