@@ -27,3 +27,9 @@ pub mod WeakHeadRules
 pub mod ComparisonRules
 pub mod ComparisonApart
 pub mod DerivationLaws
+pub mod Exchange
+pub mod Trace
+pub mod Instance
+pub mod Below
+pub mod Extend
+pub mod Declare
