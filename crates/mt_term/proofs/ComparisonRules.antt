@@ -1,12 +1,12 @@
 -- The comparison, rule by rule, as a program follows it.
-use Rattle.std.specs.Prelude.{ℕ, zero, suc, ◌≡◌, ◌+◌, ◌-◌, ◌<◌, ◌≤◌, refl, Bool, true, false, ◌&&◌, if◌then◌else◌, nat_eq, List, length}
-use Rattle.std.proofs.Common.{sym, ◌∙◌, ap, arith}
+use Rattle.std.specs.Prelude.{ℕ, suc, ◌≡◌, ◌-◌, ◌<◌, ◌≤◌, refl, Bool, true, false, ◌&&◌, if◌then◌else◌, nat_eq, List}
+use Rattle.std.proofs.Common.{◌∙◌, ap, arith}
 use Rattle.mt_term.specs.Trees.{Bytes, Tree, Trees, Arms, Var, Sort, Prod, Lam, App, Const, Ind, Con, Match, Meta, End, Item, NoArm, Arm}
 use Rattle.mt_term.specs.declared.universes.Sort.{Sort as AnySort}
 use Rattle.mt_term.specs.declared.modes.Mode.{Mode}
-use Rattle.mt_term.specs.declared.modes.Mode.TheVariants.{Equal, AtMost}
+use Rattle.mt_term.specs.declared.modes.Mode.TheVariants.{Equal}
 use Rattle.mt_term.specs.Declarations.{Reason, Environment}
-use Rattle.mt_term.specs.Charges.{Outcome, Done, Refused, Spent, Charged, give, ◌>>=◌, charge, and_then, rest}
+use Rattle.mt_term.specs.Charges.{Done, Refused, Spent, Charged, give, ◌>>=◌, and_then, rest}
 use Rattle.mt_term.specs.Alike.{is_alike}
 use Rattle.mt_term.specs.Stores.{Store}
 use Rattle.mt_term.specs.WeakHead.{whd}

@@ -18,31 +18,31 @@ use Rattle.mt_term.proofs.WeakHeadLaws.{whd-agree}
 use Rattle.mt_term.proofs.ComparisonLaws.{convert-agree}
 
 module _ (k i : ℕ) where
-  a_sort-agree : (t : Tree) → Agree k i (a_sort t) (a_sort t)
+  pub a_sort-agree : (t : Tree) → Agree k i (a_sort t) (a_sort t)
   a_sort-agree (Sort s) = give-agree k i s
   a_sort-agree _ = refuse-agree k i _
 
-  a_product-agree : (t : Tree) → Agree k i (a_product t) (a_product t)
+  pub a_product-agree : (t : Tree) → Agree k i (a_product t) (a_product t)
   a_product-agree (Prod x a b) = give-agree k i _
   a_product-agree _ = refuse-agree k i _
 
-  found-agree : {A : Type 0} (o : Option A) → Agree k i (found o) (found o)
+  pub found-agree : {A : Type 0} (o : Option A) → Agree k i (found o) (found o)
   found-agree None = refuse-agree k i _
   found-agree (Some a) = give-agree k i a
 
-  eliminable-agree : {A : Type 0} (o : Option A) → Agree k i (eliminable o) (eliminable o)
+  pub eliminable-agree : {A : Type 0} (o : Option A) → Agree k i (eliminable o) (eliminable o)
   eliminable-agree None = refuse-agree k i _
   eliminable-agree (Some a) = give-agree k i a
 
-  checked-agree : (b : Bool) → Agree k i (checked b) (checked b)
+  pub checked-agree : (b : Bool) → Agree k i (checked b) (checked b)
   checked-agree true = give-agree k i tt
   checked-agree false = refuse-agree k i _
 
-  in_range-agree : (o : Option AnySort) → Agree k i (in_range o) (in_range o)
+  pub in_range-agree : (o : Option AnySort) → Agree k i (in_range o) (in_range o)
   in_range-agree None = refuse-agree k i _
   in_range-agree (Some s) = give-agree k i _
 
-  agreed-agree : (Γ : List Hypothesis) (t u : Tree) (b : Bool) → Agree k i (agreed Γ t u b) (agreed Γ t u b)
+  pub agreed-agree : (Γ : List Hypothesis) (t u : Tree) (b : Bool) → Agree k i (agreed Γ t u b) (agreed Γ t u b)
   agreed-agree Γ t u true = give-agree k i tt
   agreed-agree Γ t u false = refuse-agree k i _
 
@@ -52,16 +52,16 @@ charged-agree zero i m h = charge-agree 0 i m m tt
 charged-agree (suc k) i m h = charge-agree (suc k) i m m (h k)
 
 module _ (E : Environment) (S : Store) (i : ℕ) where
-  sorted-agree : (k : ℕ) (m : Charged Tree) → Agree k i m m → Agree k i (sorted E S m) (sorted E S m)
+  pub sorted-agree : (k : ℕ) (m : Charged Tree) → Agree k i m m → Agree k i (sorted E S m) (sorted E S m)
   sorted-agree k m h = then-agree k i _ _ _ _ (then-agree k i _ _ _ _ h (λ u. whd-agree E S k i u)) (a_sort-agree k i)
 
-  producted-agree : (k : ℕ) (m : Charged Tree) → Agree k i m m → Agree k i (m >>= whd E S >>= a_product) (m >>= whd E S >>= a_product)
+  pub producted-agree : (k : ℕ) (m : Charged Tree) → Agree k i m m → Agree k i (m >>= whd E S >>= a_product) (m >>= whd E S >>= a_product)
   producted-agree k m h = then-agree k i _ _ _ _ (then-agree k i _ _ _ _ h (λ u. whd-agree E S k i u)) (a_product-agree k i)
 
-  agrees-agree : (k : ℕ) (Γ : List Hypothesis) (mode : Mode) (t u : Tree) → Agree k i (agrees E S Γ mode t u) (agrees E S Γ mode t u)
+  pub agrees-agree : (k : ℕ) (Γ : List Hypothesis) (mode : Mode) (t u : Tree) → Agree k i (agrees E S Γ mode t u) (agrees E S Γ mode t u)
   agrees-agree k Γ mode t u = then-agree k i _ _ _ _ (convert-agree E S k i mode t u) (agreed-agree k i Γ t u)
 
-  eliminated-agree : (k : ℕ) (Γ : List Hypothesis) (large : Bool) (u h t : Tree) → Agree k i (eliminated E S Γ large u h t) (eliminated E S Γ large u h t)
+  pub eliminated-agree : (k : ℕ) (Γ : List Hypothesis) (large : Bool) (u h t : Tree) → Agree k i (eliminated E S Γ large u h t) (eliminated E S Γ large u h t)
   eliminated-agree k Γ large (Prod x a b) h t =
       then-agree k i _ _ _ _ (then-agree k i _ _ _ _ (whd-agree E S k i t) (a_product-agree k i)) (λ p.
       then-agree k i _ _ _ _ (agrees-agree k Γ _ _ _) (λ z. eliminated-agree k _ large b _ _))
@@ -72,11 +72,11 @@ module _ (E : Environment) (S : Store) (i : ℕ) where
       then-agree k i _ _ _ _ (checked-agree k i _) (λ z. give-agree k i s))))
   eliminated-agree k Γ large _ h t = refuse-agree k i _
 
-  elim_by-agree : (k : ℕ) (Γ : List Hypothesis) (f : Family) (m : Charged Tree) → Agree k i m m → Agree k i (elim_by E S Γ f m) (elim_by E S Γ f m)
+  pub elim_by-agree : (k : ℕ) (Γ : List Hypothesis) (f : Family) (m : Charged Tree) → Agree k i m m → Agree k i (elim_by E S Γ f m) (elim_by E S Γ f m)
   elim_by-agree k Γ f m h = then-agree k i _ _ _ _ h (λ t. eliminated-agree k Γ f.large f.arity _ t)
 
   mutual
-    inferred-agree : (k : ℕ) (Γ : List Hypothesis) (t : Tree) → Agree k i (inferred E S Γ t) (inferred E S Γ t)
+    pub inferred-agree : (k : ℕ) (Γ : List Hypothesis) (t : Tree) → Agree k i (inferred E S Γ t) (inferred E S Γ t)
     inferred-agree k Γ (Var j) = charged-agree k i _ (λ l. found-agree l i _)
     inferred-agree k Γ (Sort s) = charged-agree k i _ (λ l. in_range-agree l i _)
     inferred-agree k Γ (Prod x a b) = charged-agree k i _ (λ l.
@@ -102,7 +102,7 @@ module _ (E : Environment) (S : Store) (i : ℕ) where
         then-agree l i _ _ _ _ (found-agree l i _) (λ d.
         then-agree l i _ _ _ _ (inferred_terms-agree l Γ s _ _) (λ z. give-agree l i _)))
 
-    inferred_terms-agree : (k : ℕ) (Γ : List Hypothesis) (s : Trees) (more : List Tree) (σ : ℕ → Tree) → Agree k i (inferred_terms E S Γ s more σ) (inferred_terms E S Γ s more σ)
+    pub inferred_terms-agree : (k : ℕ) (Γ : List Hypothesis) (s : Trees) (more : List Tree) (σ : ℕ → Tree) → Agree k i (inferred_terms E S Γ s more σ) (inferred_terms E S Γ s more σ)
     inferred_terms-agree k Γ End [] σ = give-agree k i tt
     inferred_terms-agree k Γ (Item t s) (a ∷ more) σ =
         then-agree k i _ _ _ _ (inferred-agree k Γ t) (λ u.
@@ -110,7 +110,7 @@ module _ (E : Environment) (S : Store) (i : ℕ) where
     inferred_terms-agree k Γ End (a ∷ more) σ = refuse-agree k i _
     inferred_terms-agree k Γ (Item t s) [] σ = refuse-agree k i _
 
-    inferred_arms-agree : (k : ℕ) (Γ : List Hypothesis) (f : Family) (r : Tree) (j : ℕ) (cs : List Constructor) (bs : Arms) → Agree k i (inferred_arms E S Γ f r j cs bs) (inferred_arms E S Γ f r j cs bs)
+    pub inferred_arms-agree : (k : ℕ) (Γ : List Hypothesis) (f : Family) (r : Tree) (j : ℕ) (cs : List Constructor) (bs : Arms) → Agree k i (inferred_arms E S Γ f r j cs bs) (inferred_arms E S Γ f r j cs bs)
     inferred_arms-agree k Γ f r j (c ∷ cs) (Arm xs b bs) =
         let own = at_args c.ty f.params in
         then-agree k i (eliminable own) (eliminable own) _ _ (eliminable-agree k i own) (λ (u : Tree).

@@ -33,3 +33,4 @@ pub mod Instance
 pub mod Below
 pub mod Extend
 pub mod Declare
+pub mod InferenceRules

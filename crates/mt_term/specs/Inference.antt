@@ -232,3 +232,36 @@ infer E S Γ t = inferred E S Γ t
 -- the sort that a return function answers in, for an inductive type on its parameters
 unfoldable pub elimination : Environment → Store → List Hypothesis → Family → Tree → Charged AnySort
 elimination E S Γ f r = elim_by E S Γ f (infer E S Γ r)
+
+-- The parts of inference, by names that stay as they are in a goal: the weak head as a sort, and as a product,
+unfoldable pub as_sort : Environment → Store → Tree → Charged AnySort
+as_sort E S t = whd E S t >>= a_sort
+
+unfoldable pub as_product : Environment → Store → Tree → Charged Product
+as_product E S t = whd E S t >>= a_product
+
+-- the sort of a term, and the product that is the type of a term,
+unfoldable pub sort_of : Environment → Store → List Hypothesis → Tree → Charged AnySort
+sort_of E S Γ t = sorted E S (infer E S Γ t)
+
+unfoldable pub product_of : Environment → Store → List Hypothesis → Tree → Charged Product
+product_of E S Γ t = infer E S Γ t >>= whd E S >>= a_product
+
+-- the weak head of the type of a matched term,
+unfoldable pub type_head : Environment → Store → List Hypothesis → Tree → Charged Tree
+type_head E S Γ c = infer E S Γ c >>= whd E S
+
+-- the comparison of an inferred type with the expected one,
+unfoldable pub agreement : Environment → Store → List Hypothesis → Mode → Tree → Tree → Charged (Unit {0})
+agreement E S Γ mode t u = agrees E S Γ mode t u
+
+-- the type of a return function against an arity,
+unfoldable pub eliminating : Environment → Store → List Hypothesis → Bool → Tree → Tree → Tree → Charged AnySort
+eliminating E S Γ large u h t = eliminated E S Γ large u h t
+
+-- the terms of a metavariable, and the branches of a match
+unfoldable pub infer_terms : Environment → Store → List Hypothesis → Trees → List Tree → (ℕ → Tree) → Charged (Unit {0})
+infer_terms E S Γ s more σ = inferred_terms E S Γ s more σ
+
+unfoldable pub infer_arms : Environment → Store → List Hypothesis → Family → Tree → ℕ → List Constructor → Arms → Charged (Unit {0})
+infer_arms E S Γ f r k cs bs = inferred_arms E S Γ f r k cs bs
