@@ -1,0 +1,78 @@
+// Lengths of the longest paths and heights of names, kept in tables.
+ghost use Rattle.std.specs.Prelude.{◌≡◌, ℕ, ◌+◌, ◌<◌, ◌≤◌, ◌==◌, length, slice_index};
+ghost use Rattle.mt_term.specs.UniverseOrder.{joined, more_paths, more_heights};
+ghost use Rattle.mt_universe.specs.Tables.{alone, entry};
+
+/// How many names the tables have room for.
+pub const NAMES: usize = 256;
+
+/// How many lengths a table of paths has.
+pub const LENGTHS: usize = 65536;
+
+/// How many names stand on two paths, one after the other; 0 where one of them is none.
+fn join(m: u16, n: u16) -> u16
+    requires { m + n < 65536 }
+    ensures { result ≡ joined m n }
+{
+    if m == 0 || n == 0 { 0 } else { m + n }
+}
+
+/// How many names stand on the longest path from `a` to `b`; 0 where there is none.
+#[tactic(auto, using(crate::proofs::TableLaws::entry_in, crate::proofs::TableLaws::entry_past_row, crate::proofs::TableLaws::entry_past_column))]
+pub fn length_of(paths: &[u16], a: usize, b: usize) -> u16
+    ensures { result ≡ entry paths.now a b }
+{
+    let alone = u16::from(a == b);
+    if a < NAMES && b < NAMES {
+        match paths.get(NAMES * a + b) {
+            Some(n) => *n,
+            None => alone,
+        }
+    } else {
+        alone
+    }
+}
+
+/// The table without constraints: each name is on its own path alone.
+pub fn clear(paths: &mut [u16])
+    requires { length paths.old ≡ LENGTHS }
+    ensures { (a b : ℕ) → entry paths.new a b ≡ alone a b }
+{
+    for i in 0..LENGTHS {
+        paths[i] = u16::from(i / NAMES == i % NAMES);
+    }
+}
+
+/// The paths with the constraint that `low` is below `high`, from where none leads back.
+pub fn extend_paths(paths: &mut [u16], low: usize, high: usize)
+    requires size { length paths.old ≡ LENGTHS }
+    requires low_in { low < NAMES }
+    requires high_in { high < NAMES }
+    requires short { (a b : ℕ) → entry paths.old a b ≤ 257 }
+    requires back { entry paths.old high low ≡ 0 }
+    ensures { (a b : ℕ) → entry paths.new a b ≡ more_paths (entry paths.old) low high a b }
+{
+    for i in 0..LENGTHS {
+        let into = length_of(paths, i / NAMES, low);
+        let onward = length_of(paths, high, i % NAMES);
+        let through = join(into, onward);
+        paths[i] = paths[i].max(through);
+    }
+}
+
+/// The heights with the constraint that `low` is below `high`, by the paths before it.
+pub fn extend_heights(heights: &mut [u16], paths: &[u16], low: usize, high: usize)
+    requires size { length heights.old ≡ NAMES }
+    requires low_in { low < NAMES }
+    requires high_in { high < NAMES }
+    requires short { (a b : ℕ) → entry paths.now a b ≤ 257 }
+    requires small { (b : ℕ) → slice_index heights.old b ≤ 256 }
+    ensures { (b : ℕ) → slice_index heights.new b
+        ≡ more_heights (entry paths.now) (slice_index heights.old) low high b }
+{
+    let under = heights[low] + 1;
+    for b in 0..NAMES {
+        let reached = join(under, length_of(paths, high, b));
+        heights[b] = heights[b].max(reached.saturating_sub(1));
+    }
+}
