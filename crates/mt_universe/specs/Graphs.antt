@@ -1,11 +1,9 @@
 -- Graphs of universes as contracts see them.
-use Rattle.std.specs.Prelude.{◌≡◌, ℕ, ◌+◌, ◌<◌, ◌≤◌, max, if◌then◌else◌, nat_lt, List, [], ◌∷◌, ◌++◌, length, take, Option}
+use Rattle.std.specs.Prelude.{◌≡◌, ℕ, ◌+◌, ◌≤◌, max, if◌then◌else◌, nat_lt, List, [], ◌∷◌, ◌++◌, length, take, Option}
 use Rattle.std.specs.List.{position, position_or_len}
 use Rattle.std.specs.Str.{bytes_eq}
 use Rattle.mt_term.specs.Trees.{Bytes}
 use Rattle.mt_term.specs.Universes.{Constraints, Satisfiable}
-use Rattle.mt_universe.specs.declared.stops.GraphStop.{GraphStop}
-use Rattle.mt_universe.specs.declared.stops.GraphStop.TheVariants.{TooMany, Cycle, OutOfMemory}
 
 -- the names, by number, and the constraints on their numbers, oldest first
 pub record Universes : Type 0 where
@@ -43,9 +41,3 @@ pub record IsGraph (g : Universes) : Type 0 where
   pub few : length g.names ≤ 256
   pub numbered : named_in g.below ≡ length g.names
   pub satisfiable : Satisfiable g.below
-
--- why a constraint is refused: a 257th name; a cycle, where the names are few enough
-abbrev pub IsRefusedBy : GraphStop → Universes → Type 0
-IsRefusedBy TooMany g = 256 < length g.names
-IsRefusedBy Cycle g = (length g.names ≤ 256) × (Satisfiable g.below → ⊥)
-IsRefusedBy OutOfMemory g = Unit {0}

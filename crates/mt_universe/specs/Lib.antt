@@ -1,2 +1,4 @@
 pub mod Tables
 pub mod Graphs
+pub mod Kept
+pub mod Refusals

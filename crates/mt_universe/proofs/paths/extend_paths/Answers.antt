@@ -1,4 +1,4 @@
-use Rattle.std.proofs.Common.{◌≡◌, ℕ, ◌<◌, ◌≤◌, ◌/◌, ◌%◌, ◌+◌, ◌≢◌, max, length, get_or, ap, ◌∙◌, arith, length-set, get_or-set_same, get_or-set_other, below_more}
+use Rattle.std.proofs.Common.{◌≡◌, ◌<◌, ◌/◌, ◌%◌, ◌≢◌, max, length, get_or, ap, ◌∙◌, arith, length-set, get_or-set_same, get_or-set_other, below_more}
 use Rattle.mt_term.specs.UniverseOrder.{joined}
 use Rattle.mt_universe.specs.Tables.{entry, more_at}
 use Rattle.mt_universe.proofs.TableLaws.{all_more, more_here, kept_column, kept_row}
