@@ -1,11 +1,12 @@
 -- What the entries of a table are.
-use Rattle.std.proofs.Common.{◌≡◌, ℕ, ◌+◌, ◌*◌, ◌/◌, ◌%◌, ◌<◌, ◌≤◌, max, ltb, ◌&&◌, List, length, get_or, sym, ◌∙◌, ap, inl, inr, arith}
+use Rattle.std.proofs.Common.{◌≡◌, ℕ, ◌+◌, ◌*◌, ◌/◌, ◌%◌, ◌<◌, ◌≤◌, max, ltb, ◌&&◌, List, ◌++◌, length, take, drop, subst, get_or, sym, ◌∙◌, ap, inl, inr, arith}
 use Rattle.std.proofs.lemmas.Bool.{cases_lt, lt-ltb, le-ltb, cond-true, cond-false, and_from, and_left, and_right}
 use Rattle.std.proofs.lemmas.Bool.Decides.{nat_tests}
 use Rattle.std.proofs.lemmas.List.{get_or_default, get_or_past}
+use Rattle.std.proofs.Math.Seq.{take-append_seam}
 use Rattle.mt_term.specs.UniverseOrder.{joined, more_paths, more_heights}
 use Rattle.mt_term.proofs.UniverseOrderLaws.{joined_cases}
-use Rattle.mt_universe.specs.Tables.{alone, entry, more_at}
+use Rattle.mt_universe.specs.Tables.{alone, entry, more_at, AreFresh}
 
 pub entry_in : (t : List ℕ) (a b : ℕ) → a < 256 → b < 256 → entry t a b ≡ get_or t (256 * a + b) (alone a b)
 unfolding entry
@@ -89,3 +90,12 @@ module _ (now before : List ℕ) (low high : ℕ) (size : length now ≡ 65536) 
 pub more_heights_past : (hs t : List ℕ) (low high b : ℕ) → length hs ≡ 256 → high < 256 → 256 ≤ b → more_heights (entry t) (λ x. get_or hs x 0) low high b ≡ 0
 more_heights_past hs t low high b size p q =
     grind (arith, joined_cases (get_or hs low 0 + 1) (entry t high b), entry_past_column t high b q, alone_apart high b p q, get_or_past hs b 0 (omega arith))
+
+-- a slice of a whole vector, written back
+pub written_back : (n : ℕ) (xs ys : List ℕ) → length xs ≡ n → take n (xs ++ drop (length xs) ys) ≡ xs
+written_back n xs ys e = subst (λ m. take m (xs ++ drop (length xs) ys) ≡ xs) e (take-append_seam xs (drop (length xs) ys))
+
+pub AreFresh-written_back : (n m : ℕ) (xs ys zs ws : List ℕ) → length xs ≡ n → length zs ≡ m → AreFresh xs zs → AreFresh (take n (xs ++ drop (length xs) ys)) (take m (zs ++ drop (length zs) ws))
+AreFresh-written_back n m xs ys zs ws e f h =
+  subst (λ ts. AreFresh ts (take m (zs ++ drop (length zs) ws))) (sym (written_back n xs ys e))
+    (subst (AreFresh xs) (sym (written_back m zs ws f)) h)

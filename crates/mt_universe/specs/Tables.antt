@@ -1,5 +1,5 @@
 -- Path lengths as the program keeps them: a table with a row of 256 for each name.
-use Rattle.std.specs.Prelude.{ℕ, ◌+◌, ◌*◌, ◌/◌, ◌%◌, ◌&&◌, ◌==◌, nat_lt, if◌then◌else◌, List, slice_index_or}
+use Rattle.std.specs.Prelude.{◌≡◌, ℕ, ◌+◌, ◌*◌, ◌/◌, ◌%◌, ◌&&◌, ◌==◌, nat_lt, if◌then◌else◌, List, length, slice_index, slice_index_or}
 use Rattle.mt_term.specs.UniverseOrder.{more_paths}
 
 -- how many names stand on the path of a name alone
@@ -13,3 +13,10 @@ entry table a b = if nat_lt a 256 && nat_lt b 256 then slice_index_or table (256
 -- what stands at a place of the table with one constraint more
 abbrev pub more_at : List ℕ → ℕ → ℕ → ℕ → ℕ
 more_at table low high k = more_paths (entry table) low high (k / 256) (k % 256)
+
+-- tables of no constraints
+pub record AreFresh (paths heights : List ℕ) : Type 0 where
+  pub paths_made : length paths ≡ 65536
+  pub heights_made : length heights ≡ 256
+  pub no_paths : (a b : ℕ) → entry paths a b ≡ alone a b
+  pub no_heights : (b : ℕ) → slice_index heights b ≡ 0

@@ -1,6 +1,7 @@
 // Numbers of names.
-ghost use Rattle.std.specs.Prelude.{◌≡◌, ◌≤◌, length, OnOk, OnErr};
-ghost use Rattle.mt_universe.specs.Graphs.{number_of, number_or_next, named};
+ghost use Rattle.std.specs.Prelude.{◌≡◌, ◌<◌, ◌≤◌, [], ◌∷◌, ◌++◌, length, OnOk, OnErr};
+ghost use Rattle.mt_universe.specs.Graphs.{number_of, number_or_next, named, named_in};
+ghost use Rattle.std.specs.List.{All};
 
 use mt_term::Name;
 use std::alloc::{AllocError, AllocFailed};
@@ -79,4 +80,42 @@ pub fn give_numbers(
             Err(e)
         }
     }
+}
+
+/// Adds a constraint on two names, which get their numbers.
+pub fn add_constraint(
+    names: &mut Vec<Name>,
+    below: &mut Vec<(usize, usize)>,
+    a: Name,
+    b: Name,
+    constraint: (usize, usize),
+) -> Result<(), AllocError>
+    requires low { constraint.0 ≡ number_or_next names.old.items a }
+    requires high { constraint.1 ≡ number_or_next (named names.old.items a) b }
+    ensures names { OnOk result (names.new.items ≡ named (named names.old.items a) b) }
+    ensures below { OnOk result (below.new.items ≡ below.old.items ++ constraint ∷ []) }
+    ensures err { OnErr result
+        ((names.new.items ≡ names.old.items) × (below.new.items ≡ below.old.items)) }
+{
+    let before = below.len();
+    below.push(constraint)?;
+    match give_numbers(names, a, b, constraint.0, constraint.1) {
+        Ok(()) => Ok(()),
+        Err(e) => {
+            below.truncate(before);
+            Err(e)
+        }
+    }
+}
+
+/// How many names stand in the constraints.
+pub fn named_in(below: &[(usize, usize)]) -> usize
+    requires { All (λ c. (c.0 < 256) × (c.1 < 256)) below.now }
+    ensures { result ≡ named_in below.now }
+{
+    let mut most = 0;
+    for (low, high) in below {
+        most = most.max(*low + 1).max(*high + 1);
+    }
+    most
 }

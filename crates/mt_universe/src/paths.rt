@@ -1,7 +1,9 @@
 // Lengths of the longest paths and heights of names, kept in tables.
-ghost use Rattle.std.specs.Prelude.{◌≡◌, ℕ, ◌+◌, ◌<◌, ◌≤◌, ◌==◌, length, slice_index};
+ghost use Rattle.std.specs.Prelude.{◌≡◌, ℕ, ◌+◌, ◌<◌, ◌≤◌, ◌==◌, length, slice_index, OnOk, OnErr};
 ghost use Rattle.mt_term.specs.UniverseOrder.{joined, more_paths, more_heights};
-ghost use Rattle.mt_universe.specs.Tables.{alone, entry};
+ghost use Rattle.mt_universe.specs.Tables.{alone, entry, AreFresh};
+
+use std::alloc::{AllocError, Global};
 
 /// How many names the tables have room for.
 pub const NAMES: usize = 256;
@@ -75,4 +77,41 @@ pub fn extend_heights(heights: &mut [u16], paths: &[u16], low: usize, high: usiz
         let reached = join(under, length_of(paths, high, b));
         heights[b] = heights[b].max(reached.saturating_sub(1));
     }
+}
+
+/// The heights without constraints.
+fn clear_heights(heights: &mut [u16])
+    ensures { (b : ℕ) → slice_index heights.new b ≡ 0 }
+{
+    for height in heights.iter_mut() {
+        *height = 0;
+    }
+}
+
+/// Tables without constraints.
+pub fn make_tables(
+    alloc: Global,
+    paths: &mut Vec<u16>,
+    heights: &mut Vec<u16>,
+) -> Result<(), AllocError>
+    ensures ok { OnOk result (AreFresh paths.new.items heights.new.items) }
+    ensures err { OnErr result
+        ((paths.new.items ≡ paths.old.items) × (heights.new.items ≡ heights.old.items)) }
+{
+    let mut lengths = vec![in alloc; 0u16; LENGTHS]?;
+    let mut zeros = vec![in alloc; 0u16; NAMES]?;
+    clear_tables(&mut lengths, &mut zeros);
+    *paths = lengths;
+    *heights = zeros;
+    Ok(())
+}
+
+/// The tables back to no constraints.
+pub fn clear_tables(paths: &mut [u16], heights: &mut [u16])
+    requires paths { length paths.old ≡ LENGTHS }
+    requires heights { length heights.old ≡ NAMES }
+    ensures { AreFresh paths.new heights.new }
+{
+    clear(paths);
+    clear_heights(heights);
 }
