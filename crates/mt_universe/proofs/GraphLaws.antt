@@ -1,12 +1,21 @@
--- Laws of graphs: numbers of names.
-use Rattle.std.proofs.Common.{◌≡◌, ℕ, ◌+◌, ◌<◌, ◌≤◌, true, false, cond, eqb, ltb, List, [], ◌∷◌, ◌++◌, length, Some, None, sym, ◌∙◌, ap, inl, inr, arith}
+-- Laws of graphs: the numbers of names, and the tables after each change.
+use Rattle.std.proofs.Common.{◌≡◌, ℕ, zero, suc, ◌+◌, ◌<◌, ◌≤◌, ◌↔◌, max, Bool, true, false, cond, ◌&&◌, eqb, ltb, List, [], ◌∷◌, ◌++◌, length, length-append, take, slice_index, Option, Some, None, refl, sym, ◌∙◌, ap, subst, inl, inr, arith}
 use Rattle.std.specs.Str.{bytes_eq}
 use Rattle.std.proofs.lemmas.List.Folds.{position_or_len_push}
 use Rattle.std.proofs.lemmas.List.Sums.{prefix_len-le-length}
-use Rattle.std.proofs.lemmas.Bool.{cases_lt, lt-ltb, le-ltb, eq-eqb, cond-true, cond-false, ne_eqb}
+use Rattle.std.proofs.lemmas.Bool.{cases_Bool, cases_lt, lt-ltb, le-ltb, eq-eqb, cond-true, cond-false, ne_eqb}
 use Rattle.std.proofs.lemmas.Slice.Eq.{bytes_eq-Decides}
+use Rattle.std.specs.List.{All}
+use Rattle.std.proofs.lemmas.List.Elements.{All-nil, All-cons}
 use Rattle.mt_term.specs.Trees.{Bytes}
-use Rattle.mt_universe.specs.Graphs.{number_of, number_or_next, named}
+use Rattle.mt_term.specs.declared.universes.UnivExpr.{UnivExpr}
+use Rattle.mt_term.specs.Universes.{Constraints, Satisfiable, IsAtMost}
+use Rattle.mt_term.specs.UniverseOrder.{path, height, more_paths, more_heights, AreLongest, at_most_by}
+use Rattle.mt_term.proofs.UniverseOrderLaws.{no_constraints, none_meets, one_more, at_most_by_decides}
+use Rattle.mt_universe.specs.Graphs.{Universes, IsGraph, number_of, number_or_next, named, named_in, declared, no_names}
+use Rattle.mt_universe.specs.Tables.{entry, alone, AreFresh}
+use Rattle.mt_universe.specs.Kept.{IsKept}
+use Rattle.mt_universe.proofs.OrderLaws.{short_paths, small_heights, AreLongest-same, AreLongest-to_back, Satisfiable-to_front}
 
 pub number_or_next_at_most : (names : List Bytes) (x : Bytes) → number_or_next names x ≤ length names
 number_or_next_at_most names x = prefix_len-le-length _ names
@@ -61,3 +70,108 @@ second_known names a b p =
 
 pub second_beside : (names : List Bytes) (a b : Bytes) → number_or_next names a < length names → number_or_next names b ≡ number_or_next (named names a) b
 second_beside names a b q = ap (λ x. number_or_next x b) (sym (named_again names a q))
+
+pub length-named : (names : List Bytes) (x : Bytes) → length (named names x) ≡ max (length names) (number_or_next names x + 1)
+length-named names x =
+  let most = number_or_next_at_most names x in
+  elim (cases_lt (number_or_next names x) (length names)) [
+    inl p ↦ (let e : length (named names x) ≡ length names = ap (λ (xs : List Bytes). length xs) (named_again names x p) in omega arith)
+  | inr p ↦ (let e : length (named names x) ≡ length (names ++ x ∷ []) = ap (λ (xs : List Bytes). length xs) (named_new names x p) in
+             omega (arith, length-append names (x ∷ []))) ]
+
+named_in-push : (cs : Constraints) (c : ℕ × ℕ) → named_in (cs ++ c ∷ []) ≡ max (named_in cs) (max (c.0 + 1) (c.1 + 1))
+named_in-push [] c = omega arith
+named_in-push (d ∷ cs) c = omega (arith, named_in-push cs c)
+
+pub named_in-take : (n : ℕ) (cs : Constraints) → named_in (take n cs) ≤ named_in cs
+named_in-take zero cs = omega arith
+named_in-take (suc n) [] = omega arith
+named_in-take (suc n) (c ∷ cs) = omega (arith, named_in-take n cs)
+
+pub within_names : (cs : Constraints) (n : ℕ) → named_in cs ≤ n → All (λ c. (c.0 < n) × (c.1 < n)) cs
+within_names [] n p = All-nil _
+within_names (c ∷ cs) n p = All-cons (λ (c : ℕ × ℕ). (c.0 < n) × (c.1 < n)) c cs (omega arith, omega arith) (within_names cs n (omega arith))
+
+no_constraint : (cs : Constraints) → named_in cs ≡ 0 → cs ≡ []
+no_constraint [] e = refl
+no_constraint (c ∷ cs) e = absurd (omega arith)
+
+pub fresh_longest : (ps hs : List ℕ) → AreFresh ps hs → AreLongest [] (entry ps) (slice_index hs)
+unfolding path height
+fresh_longest ps hs f = AreLongest-same [] (path []) (entry ps) (height []) (slice_index hs) no_constraints f.no_paths f.no_heights
+
+pub none_kept : IsKept no_names [] []
+unfolding path height entry
+none_kept = record {
+  few = omega arith;
+  numbered = refl;
+  paths_made = λ p. absurd (omega arith);
+  heights_made = λ p. absurd (omega arith);
+  longest = AreLongest-same [] (path []) (entry []) (height []) (slice_index []) no_constraints
+    (λ a b. elim (cases_Bool (ltb a 256 && ltb b 256)) [
+        inl t ↦ cond-true (ltb a 256 && ltb b 256) _ _ t
+      | inr f ↦ cond-false (ltb a 256 && ltb b 256) _ _ f ])
+    (λ b. refl) }
+
+-- What the tables of a graph give.
+module _ (g : Universes) (paths heights : List ℕ) (k : IsKept g paths heights) where
+  within : All (λ c. (c.0 < 256) × (c.1 < 256)) g.below
+  within = within_names g.below 256 (let f = k.few in let n = k.numbered in omega arith)
+
+  pub short : (a b : ℕ) → entry paths a b ≤ 257
+  short a b = short_paths 256 g.below (entry paths) (slice_index heights) k.longest within a b
+
+  pub small : (b : ℕ) → slice_index heights b ≤ 256
+  small b = small_heights 256 g.below (entry paths) (slice_index heights) k.longest within b
+
+  pub kept_graph : IsGraph g
+  kept_graph = record { few = k.few; numbered = k.numbered; satisfiable = (slice_index heights, k.longest.meet) }
+
+  pub order_kept : (u w : UnivExpr) (r : Bool) → r ≡ at_most_by (entry paths) (slice_index heights) u w → (r ≡ true) ↔ IsAtMost g.below u w
+  order_kept u w r e =
+    let d = at_most_by_decides g.below (entry paths) (slice_index heights) k.longest u w in
+    ( (λ t. d.0 (sym e ∙ t)), (λ q. e ∙ d.1 q) )
+
+  -- without names the tables may be made anew
+  pub kept_fresh : (ps hs : List ℕ) → length g.names ≡ 0 → AreFresh ps hs → IsKept g ps hs
+  kept_fresh ps hs e f =
+    let none : g.below ≡ [] = no_constraint g.below (k.numbered ∙ e) in
+    let at_none : AreLongest [] (entry ps) (slice_index hs) = fresh_longest ps hs f in
+    record {
+      few = k.few;
+      numbered = k.numbered;
+      paths_made = λ p. f.paths_made;
+      heights_made = λ p. f.heights_made;
+      longest = subst (λ cs. AreLongest cs (entry ps) (slice_index hs)) (sym none) at_none }
+
+  module _ (a b : Bytes) where
+    -- a path back refuses the constraint
+    pub cycle_refused : 0 < entry paths (number_or_next (named g.names a) b) (number_or_next g.names a) → Satisfiable (declared g a b).below → ⊥
+    cycle_refused p s = none_meets g.below (entry paths) (slice_index heights) (number_or_next g.names a) (number_or_next (named g.names a) b) k.longest p
+      (Satisfiable-to_front g.below (number_or_next g.names a, number_or_next (named g.names a) b) s)
+
+    -- else the constraint is added
+    pub declared_kept : (ps hs : List ℕ) → number_or_next g.names a < 256 → number_or_next (named g.names a) b < 256
+      → entry paths (number_or_next (named g.names a) b) (number_or_next g.names a) ≡ 0
+      → length ps ≡ 65536 → length hs ≡ 256
+      → ((p q : ℕ) → entry ps p q ≡ more_paths (entry paths) (number_or_next g.names a) (number_or_next (named g.names a) b) p q)
+      → ((q : ℕ) → slice_index hs q ≡ more_heights (entry paths) (slice_index heights) (number_or_next g.names a) (number_or_next (named g.names a) b) q)
+      → IsKept (declared g a b) ps hs
+    declared_kept ps hs low_in high_in back size heights_size all_paths all_heights =
+      let low = number_or_next g.names a in
+      let high = number_or_next (named g.names a) b in
+      let n1 = length-named g.names a in
+      let n2 = length-named (named g.names a) b in
+      let m1 = number_or_next_at_most g.names a in
+      let m2 = number_or_next_at_most (named g.names a) b in
+      let f = k.few in
+      let n = k.numbered in
+      let more = named_in-push g.below (low, high) in
+      record {
+        few = omega arith;
+        numbered = omega arith;
+        paths_made = λ p. size;
+        heights_made = λ p. heights_size;
+        longest = AreLongest-to_back g.below (low, high) (entry ps) (slice_index hs)
+          (AreLongest-same ((low, high) ∷ g.below) (more_paths (entry paths) low high) (entry ps) (more_heights (entry paths) (slice_index heights) low high) (slice_index hs)
+            (one_more g.below (entry paths) (slice_index heights) low high k.longest back) all_paths all_heights) }

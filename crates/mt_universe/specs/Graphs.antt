@@ -25,7 +25,10 @@ named names x = if nat_lt (number_or_next names x) (length names) then names els
 abbrev pub declared : Universes → Bytes → Bytes → Universes
 declared g a b =
     let first = named g.names a in
-    record { names = named first b; below = g.below ++ (number_or_next first a, number_or_next first b) ∷ [] }
+    record { names = named first b; below = g.below ++ (number_or_next g.names a, number_or_next first b) ∷ [] }
+
+abbrev pub no_names : Universes
+no_names = record { names = []; below = [] }
 
 -- how many names stand in the constraints, since they are numbered by their first places there
 abbrev pub named_in : Constraints → ℕ
