@@ -113,6 +113,11 @@ none_kept = record {
       | inr f ↦ cond-false (ltb a 256 && ltb b 256) _ _ f ])
     (λ b. refl) }
 
+pub kept_empty : (names : List Bytes) (below : Constraints) (ps hs : List ℕ) → names ≡ [] → below ≡ [] → ps ≡ [] → hs ≡ [] → IsKept (record { names = names; below = below }) ps hs
+kept_empty names below ps hs e f p q =
+  let whole : IsKept (record { names = names; below = below }) ps hs ≡ IsKept no_names [] [] = λ i. IsKept (record { names = e i; below = f i }) (p i) (q i) in
+  subst (λ (T : Type 0). T) (sym whole) none_kept
+
 -- What the tables of a graph give.
 module _ (g : Universes) (paths heights : List ℕ) (k : IsKept g paths heights) where
   within : All (λ c. (c.0 < 256) × (c.1 < 256)) g.below

@@ -2,8 +2,10 @@
 #![tactic(auto)]
 
 mod numbers;
+mod graphs;
 mod order;
 mod paths;
 mod stops;
 
+pub use graphs::Graph;
 pub use stops::GraphStop;
