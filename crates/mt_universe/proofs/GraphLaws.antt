@@ -1,5 +1,5 @@
 -- Laws of graphs: the numbers of names, and the tables after each change.
-use Rattle.std.proofs.Common.{◌≡◌, ℕ, zero, suc, ◌+◌, ◌<◌, ◌≤◌, ◌↔◌, max, Bool, true, false, cond, ◌&&◌, eqb, ltb, List, [], ◌∷◌, ◌++◌, length, length-append, take, slice_index, Option, Some, None, refl, sym, ◌∙◌, ap, subst, inl, inr, arith}
+use Rattle.std.proofs.Common.{◌≡◌, ℕ, zero, suc, ◌+◌, ◌<◌, ◌≤◌, ◌↔◌, ◌⊎◌, max, Bool, true, false, cond, ◌&&◌, eqb, ltb, List, [], ◌∷◌, ◌++◌, length, length-append, take, drop, slice_index, Option, Some, None, refl, sym, ◌∙◌, ap, subst, inl, inr, arith}
 use Rattle.std.specs.Str.{bytes_eq}
 use Rattle.std.proofs.lemmas.List.Folds.{position_or_len_push}
 use Rattle.std.proofs.lemmas.List.Sums.{prefix_len-le-length}
@@ -15,6 +15,7 @@ use Rattle.mt_term.proofs.UniverseOrderLaws.{no_constraints, none_meets, one_mor
 use Rattle.mt_universe.specs.Graphs.{Universes, IsGraph, number_of, number_or_next, named, named_in, declared, no_names}
 use Rattle.mt_universe.specs.Tables.{entry, alone, AreFresh}
 use Rattle.mt_universe.specs.Kept.{IsKept}
+use Rattle.mt_universe.proofs.TableLaws.{written_back}
 use Rattle.mt_universe.proofs.OrderLaws.{short_paths, small_heights, AreLongest-same, AreLongest-to_back, Satisfiable-to_front}
 
 pub number_or_next_at_most : (names : List Bytes) (x : Bytes) → number_or_next names x ≤ length names
@@ -73,11 +74,12 @@ second_beside names a b q = ap (λ x. number_or_next x b) (sym (named_again name
 
 pub length-named : (names : List Bytes) (x : Bytes) → length (named names x) ≡ max (length names) (number_or_next names x + 1)
 length-named names x =
-  let most = number_or_next_at_most names x in
-  elim (cases_lt (number_or_next names x) (length names)) [
-    inl p ↦ (let e : length (named names x) ≡ length names = ap (λ (xs : List Bytes). length xs) (named_again names x p) in omega arith)
-  | inr p ↦ (let e : length (named names x) ≡ length (names ++ x ∷ []) = ap (λ (xs : List Bytes). length xs) (named_new names x p) in
-             omega (arith, length-append names (x ∷ []))) ]
+    let most = number_or_next_at_most names x in
+    elim (cases_lt (number_or_next names x) (length names)) [
+      | inl p ↦ (let e : length (named names x) ≡ length names = ap (λ (xs : List Bytes). length xs) (named_again names x p) in omega arith)
+      | inr p ↦ (let e : length (named names x) ≡ length (names ++ x ∷ []) = ap (λ (xs : List Bytes). length xs) (named_new names x p) in
+          omega (arith, length-append names (x ∷ [])))
+    ]
 
 named_in-push : (cs : Constraints) (c : ℕ × ℕ) → named_in (cs ++ c ∷ []) ≡ max (named_in cs) (max (c.0 + 1) (c.1 + 1))
 named_in-push [] c = omega arith
@@ -108,15 +110,17 @@ none_kept = record {
   paths_made = λ p. absurd (omega arith);
   heights_made = λ p. absurd (omega arith);
   longest = AreLongest-same [] (path []) (entry []) (height []) (slice_index []) no_constraints
-    (λ a b. elim (cases_Bool (ltb a 256 && ltb b 256)) [
-        inl t ↦ cond-true (ltb a 256 && ltb b 256) _ _ t
-      | inr f ↦ cond-false (ltb a 256 && ltb b 256) _ _ f ])
-    (λ b. refl) }
+      (λ a b. elim (cases_Bool (ltb a 256 && ltb b 256)) [
+        | inl t ↦ cond-true (ltb a 256 && ltb b 256) _ _ t
+        | inr f ↦ cond-false (ltb a 256 && ltb b 256) _ _ f
+      ])
+      (λ b. refl);
+}
 
 pub kept_empty : (names : List Bytes) (below : Constraints) (ps hs : List ℕ) → names ≡ [] → below ≡ [] → ps ≡ [] → hs ≡ [] → IsKept (record { names = names; below = below }) ps hs
 kept_empty names below ps hs e f p q =
-  let whole : IsKept (record { names = names; below = below }) ps hs ≡ IsKept no_names [] [] = λ i. IsKept (record { names = e i; below = f i }) (p i) (q i) in
-  subst (λ (T : Type 0). T) (sym whole) none_kept
+    let whole : IsKept (record { names = names; below = below }) ps hs ≡ IsKept no_names [] [] = λ i. IsKept (record { names = e i; below = f i }) (p i) (q i) in
+    subst (λ (T : Type 0). T) (sym whole) none_kept
 
 -- What the tables of a graph give.
 module _ (g : Universes) (paths heights : List ℕ) (k : IsKept g paths heights) where
@@ -134,49 +138,84 @@ module _ (g : Universes) (paths heights : List ℕ) (k : IsKept g paths heights)
 
   pub order_kept : (u w : UnivExpr) (r : Bool) → r ≡ at_most_by (entry paths) (slice_index heights) u w → (r ≡ true) ↔ IsAtMost g.below u w
   order_kept u w r e =
-    let d = at_most_by_decides g.below (entry paths) (slice_index heights) k.longest u w in
-    ( (λ t. d.0 (sym e ∙ t)), (λ q. e ∙ d.1 q) )
+      let d = at_most_by_decides g.below (entry paths) (slice_index heights) k.longest u w in
+      ((λ t. d.0 (sym e ∙ t)), (λ q. e ∙ d.1 q))
 
   -- without names the tables may be made anew
   pub kept_fresh : (ps hs : List ℕ) → length g.names ≡ 0 → AreFresh ps hs → IsKept g ps hs
   kept_fresh ps hs e f =
-    let none : g.below ≡ [] = no_constraint g.below (k.numbered ∙ e) in
-    let at_none : AreLongest [] (entry ps) (slice_index hs) = fresh_longest ps hs f in
-    record {
-      few = k.few;
-      numbered = k.numbered;
-      paths_made = λ p. f.paths_made;
-      heights_made = λ p. f.heights_made;
-      longest = subst (λ cs. AreLongest cs (entry ps) (slice_index hs)) (sym none) at_none }
+      let none : g.below ≡ [] = no_constraint g.below (k.numbered ∙ e) in
+      let at_none : AreLongest [] (entry ps) (slice_index hs) = fresh_longest ps hs f in
+      record {
+        few = k.few;
+        numbered = k.numbered;
+        paths_made = λ p. f.paths_made;
+        heights_made = λ p. f.heights_made;
+        longest = subst (λ cs. AreLongest cs (entry ps) (slice_index hs)) (sym none) at_none;
+      }
 
   module _ (a b : Bytes) where
     -- a path back refuses the constraint
     pub cycle_refused : 0 < entry paths (number_or_next (named g.names a) b) (number_or_next g.names a) → Satisfiable (declared g a b).below → ⊥
     cycle_refused p s = none_meets g.below (entry paths) (slice_index heights) (number_or_next g.names a) (number_or_next (named g.names a) b) k.longest p
-      (Satisfiable-to_front g.below (number_or_next g.names a, number_or_next (named g.names a) b) s)
+        (Satisfiable-to_front g.below (number_or_next g.names a, number_or_next (named g.names a) b) s)
 
     -- else the constraint is added
     pub declared_kept : (ps hs : List ℕ) → number_or_next g.names a < 256 → number_or_next (named g.names a) b < 256
-      → entry paths (number_or_next (named g.names a) b) (number_or_next g.names a) ≡ 0
-      → length ps ≡ 65536 → length hs ≡ 256
-      → ((p q : ℕ) → entry ps p q ≡ more_paths (entry paths) (number_or_next g.names a) (number_or_next (named g.names a) b) p q)
-      → ((q : ℕ) → slice_index hs q ≡ more_heights (entry paths) (slice_index heights) (number_or_next g.names a) (number_or_next (named g.names a) b) q)
-      → IsKept (declared g a b) ps hs
+        → entry paths (number_or_next (named g.names a) b) (number_or_next g.names a) ≡ 0
+        → length ps ≡ 65536 → length hs ≡ 256
+        → ((p q : ℕ) → entry ps p q ≡ more_paths (entry paths) (number_or_next g.names a) (number_or_next (named g.names a) b) p q)
+        → ((q : ℕ) → slice_index hs q ≡ more_heights (entry paths) (slice_index heights) (number_or_next g.names a) (number_or_next (named g.names a) b) q)
+        → IsKept (declared g a b) ps hs
     declared_kept ps hs low_in high_in back size heights_size all_paths all_heights =
-      let low = number_or_next g.names a in
-      let high = number_or_next (named g.names a) b in
-      let n1 = length-named g.names a in
-      let n2 = length-named (named g.names a) b in
-      let m1 = number_or_next_at_most g.names a in
-      let m2 = number_or_next_at_most (named g.names a) b in
-      let f = k.few in
-      let n = k.numbered in
-      let more = named_in-push g.below (low, high) in
-      record {
-        few = omega arith;
-        numbered = omega arith;
-        paths_made = λ p. size;
-        heights_made = λ p. heights_size;
-        longest = AreLongest-to_back g.below (low, high) (entry ps) (slice_index hs)
-          (AreLongest-same ((low, high) ∷ g.below) (more_paths (entry paths) low high) (entry ps) (more_heights (entry paths) (slice_index heights) low high) (slice_index hs)
-            (one_more g.below (entry paths) (slice_index heights) low high k.longest back) all_paths all_heights) }
+        let low = number_or_next g.names a in
+        let high = number_or_next (named g.names a) b in
+        let n1 = length-named g.names a in
+        let n2 = length-named (named g.names a) b in
+        let m1 = number_or_next_at_most g.names a in
+        let m2 = number_or_next_at_most (named g.names a) b in
+        let f = k.few in
+        let n = k.numbered in
+        let more = named_in-push g.below (low, high) in
+        record {
+          few = omega arith;
+          numbered = omega arith;
+          paths_made = λ p. size;
+          heights_made = λ p. heights_size;
+          longest = AreLongest-to_back g.below (low, high) (entry ps) (slice_index hs)
+              (AreLongest-same ((low, high) ∷ g.below) (more_paths (entry paths) low high) (entry ps) (more_heights (entry paths) (slice_index heights) low high) (slice_index hs)
+              (one_more g.below (entry paths) (slice_index heights) low high k.longest back) all_paths all_heights);
+        }
+
+pub too_many : (g : Universes) (a b : Bytes) → (256 ≤ number_or_next g.names a) ⊎ (256 ≤ number_or_next (named g.names a) b) → 256 < length (declared g a b).names
+too_many g a b h =
+    let n1 = length-named g.names a in
+    let n2 = length-named (named g.names a) b in
+    elim h [ inl p ↦ omega arith | inr p ↦ omega arith ]
+
+pub few_enough : (g : Universes) (a b : Bytes) → length g.names ≤ 256 → number_or_next g.names a < 256 → number_or_next (named g.names a) b < 256 → length (declared g a b).names ≤ 256
+few_enough g a b f p q =
+    let n1 = length-named g.names a in
+    let n2 = length-named (named g.names a) b in
+    omega arith
+
+-- The graph that the fields say.
+pub kept_for : (names names' : List Bytes) (below : Constraints) (g : Universes) (ps hs : List ℕ) → names' ≡ names → ◌≡◌ {A = Universes} (record { names = names; below = below }) g → IsKept (record { names = names'; below = below }) ps hs → IsKept g ps hs
+kept_for names names' below g ps hs e is k =
+    subst (λ x. IsKept x ps hs) is (subst (λ xs. IsKept (record { names = xs; below = below }) ps hs) e k)
+
+pub declared_is : (g : Universes) (a b : Bytes) (names names' : List Bytes) (below below' : Constraints) (low high : ℕ)
+    → ◌≡◌ {A = Universes} (record { names = names'; below = below' }) g → names ≡ named (named names' a) b → below ≡ below' ++ (low, high) ∷ []
+    → low ≡ number_or_next g.names a → high ≡ number_or_next (named g.names a) b
+    → ◌≡◌ {A = Universes} (declared g a b) (record { names = names; below = below })
+declared_is g a b names names' below below' low high is e f p q =
+    let e' : named (named g.names a) b ≡ names = sym (e ∙ ap (λ (x : Universes). named (named x.names a) b) is) in
+    let f' : g.below ++ (number_or_next g.names a, number_or_next (named g.names a) b) ∷ [] ≡ below =
+    sym (f ∙ (λ i. below' ++ (p i, q i) ∷ []) ∙ ap (λ (x : Universes). x.below ++ (number_or_next g.names a, number_or_next (named g.names a) b) ∷ []) is) in
+    λ i. record { names = e' i; below = f' i }
+
+pub kept_written_back : (g g' : Universes) (n m : ℕ) (ps ys hs ws : List ℕ) → g ≡ g' → length ps ≡ n → length hs ≡ m → IsKept g ps hs → IsKept g' (take n (ps ++ drop (length ps) ys)) (take m (hs ++ drop (length hs) ws))
+kept_written_back g g' n m ps ys hs ws is e f k =
+    subst (λ x. IsKept x (take n (ps ++ drop (length ps) ys)) (take m (hs ++ drop (length hs) ws))) is
+    (subst (λ ts. IsKept g ts (take m (hs ++ drop (length hs) ws))) (sym (written_back n ps ys e))
+    (subst (IsKept g ps) (sym (written_back m hs ws f)) k))

@@ -97,5 +97,5 @@ written_back n xs ys e = subst (λ m. take m (xs ++ drop (length xs) ys) ≡ xs)
 
 pub AreFresh-written_back : (n m : ℕ) (xs ys zs ws : List ℕ) → length xs ≡ n → length zs ≡ m → AreFresh xs zs → AreFresh (take n (xs ++ drop (length xs) ys)) (take m (zs ++ drop (length zs) ws))
 AreFresh-written_back n m xs ys zs ws e f h =
-  subst (λ ts. AreFresh ts (take m (zs ++ drop (length zs) ws))) (sym (written_back n xs ys e))
+    subst (λ ts. AreFresh ts (take m (zs ++ drop (length zs) ws))) (sym (written_back n xs ys e))
     (subst (AreFresh xs) (sym (written_back m zs ws f)) h)

@@ -1,7 +1,8 @@
 // Graphs of universes.
 ghost use Rattle.std.specs.Prelude.{◌≡◌, ◌≤◌, ◌↔◌, IsTrue, IfOk, OnOk, OnErr, IfErr, length};
-ghost use Rattle.mt_term.specs.Universes.{Satisfiable, IsAtMost};
-ghost use Rattle.mt_universe.specs.Graphs.{no_names, number_of, declared, as_at, IsGraph};
+ghost use Rattle.mt_term.specs.Universes.{Constraints, IsAtMost};
+ghost use Rattle.mt_universe.specs.Graphs.{no_names, number_of, declared, IsGraph};
+ghost use Rattle.mt_universe.specs.Kept.{IsKept};
 ghost use Rattle.mt_universe.specs.Refusals.{IsRefusedBy};
 
 use crate::numbers::{add_constraint, number_of, numbers};
@@ -82,4 +83,41 @@ impl Graph {
     {
         at_most(&self.paths, &self.heights, u, w)
     }
+
+    /// Adds the constraint that `a` is below `b`; each new name gets the next number. `TooMany` comes exactly where a 257th name would be needed, and then `Cycle` exactly where no valuation would meet the constraints.
+    pub fn declare(&mut self, a: Name, b: Name) -> Result<(), GraphStop>
+        ensures added { OnOk result (self.new ≡ declared self.old a b) }
+        ensures graph { OnOk result (IsGraph (declared self.old a b)) }
+        ensures err { OnErr result (self.new ≡ self.old) }
+        ensures cause { IfErr result (λ e. IsRefusedBy e (declared self.old a b)) }
+    {
+        let (low, high) = numbers(&self.names, &a, &b);
+        if NAMES <= low || NAMES <= high {
+            return Err(GraphStop::TooMany);
+        }
+        ready(&self.names, &mut self.paths, &mut self.heights)?;
+        if 0 < length_of(&self.paths, high, low) {
+            return Err(GraphStop::Cycle);
+        }
+        add_constraint(&mut self.names, &mut self.below, a, b, (low, high))?;
+        extend_heights(&mut self.heights, &self.paths, low, high);
+        extend_paths(&mut self.paths, low, high);
+        Ok(())
+    }
+}
+
+/// Makes the tables for a first name.
+fn ready(names: &[Name], paths: &mut Vec<u16>, heights: &mut Vec<u16>) -> Result<(), AllocError>
+    ensures kept { (below : Constraints) → IsKept (record { names = names.now; below = below })
+        paths.old.items heights.old.items → IsKept (record { names = names.now; below = below })
+        paths.new.items heights.new.items }
+    ensures made { OnOk result ((below : Constraints) → IsKept (record { names = names.now; below = below })
+        paths.old.items heights.old.items
+        → (length paths.new.items ≡ 65536) × (length heights.new.items ≡ 256)) }
+{
+    if names.is_empty() {
+        let alloc = *paths.allocator();
+        make_tables(alloc, paths, heights)?;
+    }
+    Ok(())
 }

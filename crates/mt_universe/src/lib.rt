@@ -1,8 +1,8 @@
 //! Universe names with constraints, and the order of universe expressions under them.
 #![tactic(auto)]
 
-mod numbers;
 mod graphs;
+mod numbers;
 mod order;
 mod paths;
 mod stops;
