@@ -1,19 +1,20 @@
 -- Laws of graphs: the numbers of names, and the tables after each change.
-use Rattle.std.proofs.Common.{◌≡◌, ℕ, zero, suc, ◌+◌, ◌<◌, ◌≤◌, ◌↔◌, ◌⊎◌, max, Bool, true, false, cond, ◌&&◌, eqb, ltb, List, [], ◌∷◌, ◌++◌, length, length-append, take, drop, slice_index, Option, Some, None, refl, sym, ◌∙◌, ap, subst, inl, inr, arith}
+use Rattle.std.proofs.Common.{◌≡◌, ℕ, zero, suc, ◌+◌, ◌<◌, ◌≤◌, ◌↔◌, ◌⊎◌, max, Bool, true, false, cond, ◌&&◌, eqb, ltb, List, [], ◌∷◌, ◌++◌, length, length-append, length-take, take, drop, slice_index, Some, None, refl, sym, ◌∙◌, ap, subst, inl, inr, arith}
 use Rattle.std.specs.Str.{bytes_eq}
 use Rattle.std.proofs.lemmas.List.Folds.{position_or_len_push}
 use Rattle.std.proofs.lemmas.List.Sums.{prefix_len-le-length}
 use Rattle.std.proofs.lemmas.Bool.{cases_Bool, cases_lt, lt-ltb, le-ltb, eq-eqb, cond-true, cond-false, ne_eqb}
 use Rattle.std.proofs.lemmas.Slice.Eq.{bytes_eq-Decides}
 use Rattle.std.specs.List.{All}
-use Rattle.std.proofs.lemmas.List.Elements.{All-nil, All-cons}
+use Rattle.std.proofs.lemmas.List.Elements.{All-nil, All-cons, All-take}
+use Rattle.std.proofs.Math.Seq.{take-length}
 use Rattle.mt_term.specs.Trees.{Bytes}
 use Rattle.mt_term.specs.declared.universes.UnivExpr.{UnivExpr}
 use Rattle.mt_term.specs.Universes.{Constraints, Satisfiable, IsAtMost}
 use Rattle.mt_term.specs.UniverseOrder.{path, height, more_paths, more_heights, AreLongest, at_most_by}
 use Rattle.mt_term.proofs.UniverseOrderLaws.{no_constraints, none_meets, one_more, at_most_by_decides}
-use Rattle.mt_universe.specs.Graphs.{Universes, IsGraph, number_of, number_or_next, named, named_in, declared, no_names}
-use Rattle.mt_universe.specs.Tables.{entry, alone, AreFresh}
+use Rattle.mt_universe.specs.Graphs.{Universes, IsGraph, number_of, number_or_next, named, named_in, declared, as_at, no_names}
+use Rattle.mt_universe.specs.Tables.{entry, AreFresh}
 use Rattle.mt_universe.specs.Kept.{IsKept}
 use Rattle.mt_universe.proofs.TableLaws.{written_back}
 use Rattle.mt_universe.proofs.OrderLaws.{short_paths, small_heights, AreLongest-same, AreLongest-to_back, Satisfiable-to_front}
@@ -124,7 +125,7 @@ kept_empty names below ps hs e f p q =
 
 -- What the tables of a graph give.
 module _ (g : Universes) (paths heights : List ℕ) (k : IsKept g paths heights) where
-  within : All (λ c. (c.0 < 256) × (c.1 < 256)) g.below
+  pub within : All (λ c. (c.0 < 256) × (c.1 < 256)) g.below
   within = within_names g.below 256 (let f = k.few in let n = k.numbered in omega arith)
 
   pub short : (a b : ℕ) → entry paths a b ≤ 257
@@ -219,3 +220,49 @@ kept_written_back g g' n m ps ys hs ws is e f k =
     subst (λ x. IsKept x (take n (ps ++ drop (length ps) ys)) (take m (hs ++ drop (length hs) ws))) is
     (subst (λ ts. IsKept g ts (take m (hs ++ drop (length hs) ws))) (sym (written_back n ps ys e))
     (subst (IsKept g ps) (sym (written_back m hs ws f)) k))
+
+-- Back to the first constraints.
+pub as_at_end : (g : Universes) (n : ℕ) → named_in g.below ≡ length g.names → n ≡ length g.below → as_at g n ≡ g
+as_at_end g n numbered e =
+    let below : take n g.below ≡ g.below = ap (λ m. take m g.below) e ∙ take-length g.below in
+    let names : take (named_in (take n g.below)) g.names ≡ g.names = ap (λ cs. take (named_in cs) g.names) below ∙ ap (λ m. take m g.names) numbered ∙ take-length g.names in
+    λ i. record { names = names i; below = below i }
+
+pub as_at_kept : (g : Universes) (paths heights : List ℕ) → IsKept g paths heights → (n : ℕ) (ps hs : List ℕ) → length ps ≡ 65536 → length hs ≡ 256
+    → AreLongest (take n g.below) (entry ps) (slice_index hs) → IsKept (as_at g n) ps hs
+as_at_kept g paths heights k n ps hs size heights_size l =
+    let at_most = named_in-take n g.below in
+    let f = k.few in
+    let numbered = k.numbered in
+    let e = length-take (named_in (take n g.below)) g.names in
+    record {
+      few = omega arith;
+      numbered = omega arith;
+      paths_made = λ p. size;
+      heights_made = λ p. heights_size;
+      longest = l;
+    }
+
+-- where there are constraints there are names
+pub names_where_below : (g : Universes) → named_in g.below ≡ length g.names → 0 < length g.below → 0 < length g.names
+names_where_below g e p = some g.below (length g.names) e p
+  where
+    some : (cs : Constraints) (n : ℕ) → named_in cs ≡ n → 0 < length cs → 0 < n
+    some [] n e p = absurd (omega arith)
+    some (c ∷ cs) n e p = omega arith
+
+-- One more constraint of those that some valuation meets.
+module _ (cs : Constraints) (i : ℕ) (low high : ℕ) (D : ℕ → ℕ → ℕ) (h : ℕ → ℕ) (in' : i < length cs) (is : take (i + 1) cs ≡ take i cs ++ (low, high) ∷ []) (l : AreLongest (take i cs) D h) (s : Satisfiable cs) where
+  pub no_way_back : D high low ≡ 0
+  no_way_back =
+      let part : Satisfiable (take i cs ++ (low, high) ∷ []) = subst Satisfiable is (s.0, All-take (λ (c : ℕ × ℕ). s.0 c.0 < s.0 c.1) (i + 1) cs s.1) in
+      elim (cases_lt 0 (D high low)) [
+        | inl p ↦ absurd (none_meets (take i cs) D h low high l p (Satisfiable-to_front (take i cs) (low, high) part))
+        | inr p ↦ omega arith
+      ]
+
+  pub longest_more : (D' : ℕ → ℕ → ℕ) (h' : ℕ → ℕ) → ((p q : ℕ) → D' p q ≡ more_paths D low high p q) → ((q : ℕ) → h' q ≡ more_heights D h low high q) → AreLongest (take (i + 1) cs) D' h'
+  longest_more D' h' e f =
+      subst (λ ds. AreLongest ds D' h') (sym is)
+      (AreLongest-to_back (take i cs) (low, high) D' h'
+      (AreLongest-same ((low, high) ∷ take i cs) (more_paths D low high) D' (more_heights D h low high) h' (one_more (take i cs) D h low high l no_way_back) e f))

@@ -1,16 +1,20 @@
 // Graphs of universes.
-ghost use Rattle.std.specs.Prelude.{◌≡◌, ◌≤◌, ◌↔◌, IsTrue, IfOk, OnOk, OnErr, IfErr, length};
-ghost use Rattle.mt_term.specs.Universes.{Constraints, IsAtMost};
-ghost use Rattle.mt_universe.specs.Graphs.{no_names, number_of, declared, IsGraph};
+ghost use Rattle.std.specs.Prelude.{◌≡◌, ◌<◌, ◌≤◌, ◌↔◌, slice_index, IsTrue, IfOk, OnOk, OnErr, IfErr, length};
+ghost use Rattle.std.specs.List.{All};
+ghost use Rattle.mt_term.specs.UniverseOrder.{AreLongest};
+ghost use Rattle.mt_term.specs.Universes.{Constraints, Satisfiable, IsAtMost};
+ghost use Rattle.mt_universe.specs.Graphs.{no_names, number_of, declared, as_at, IsGraph};
 ghost use Rattle.mt_universe.specs.Kept.{IsKept};
+ghost use Rattle.mt_universe.specs.Tables.{entry};
 ghost use Rattle.mt_universe.specs.Refusals.{IsRefusedBy};
 
-use crate::numbers::{add_constraint, number_of, numbers};
+use crate::numbers::{add_constraint, copy_names, named_in, number_of, numbers};
 use crate::order::at_most;
-use crate::paths::{NAMES, extend_heights, extend_paths, length_of, make_tables};
+use crate::paths::{NAMES, clear_tables, extend_heights, extend_paths, length_of, make_tables};
 use crate::stops::GraphStop;
 use mt_term::{Name, UnivExpr};
 use std::alloc::{AllocError, Global};
+use std::clone::Clone;
 use std::marker::Model;
 
 /// Universe names with constraints that some valuation meets, seen as the names, by number, and the constraints, oldest first.
@@ -104,6 +108,33 @@ impl Graph {
         extend_paths(&mut self.paths, low, high);
         Ok(())
     }
+
+    /// Goes back to the first `count` constraints and their names.
+    pub fn back_to(&mut self, count: usize)
+        requires { count ≤ length self.old.below }
+        ensures { self.new ≡ as_at self.old count }
+    {
+        if count == self.below.len() {
+            return;
+        }
+        self.below.truncate(count);
+        let kept = named_in(&self.below);
+        self.names.truncate(kept);
+        rebuild(&self.below, &mut self.paths, &mut self.heights);
+    }
+}
+
+impl Clone for Graph {
+    fn clone(&self) -> Result<Graph, AllocError>
+        ensures { IfOk result (λ g. g ≡ self.now) }
+    {
+        Ok(Graph {
+            names: copy_names(*self.names.allocator(), &self.names)?,
+            below: self.below.clone()?,
+            paths: self.paths.clone()?,
+            heights: self.heights.clone()?,
+        })
+    }
 }
 
 /// Makes the tables for a first name.
@@ -120,4 +151,19 @@ fn ready(names: &[Name], paths: &mut Vec<u16>, heights: &mut Vec<u16>) -> Result
         make_tables(alloc, paths, heights)?;
     }
     Ok(())
+}
+
+/// The tables of constraints that some valuation meets.
+fn rebuild(below: &[(usize, usize)], paths: &mut [u16], heights: &mut [u16])
+    requires paths { length paths.old ≡ 65536 }
+    requires heights { length heights.old ≡ 256 }
+    requires within { All (λ c. (c.0 < 256) × (c.1 < 256)) below.now }
+    requires satisfiable { Satisfiable below.now }
+    ensures { AreLongest below.now (entry paths.new) (slice_index heights.new) }
+{
+    clear_tables(paths, heights);
+    for (low, high) in below {
+        extend_heights(heights, paths, *low, *high);
+        extend_paths(paths, *low, *high);
+    }
 }

@@ -1,10 +1,11 @@
 // Numbers of names.
-ghost use Rattle.std.specs.Prelude.{◌≡◌, ◌<◌, ◌≤◌, [], ◌∷◌, ◌++◌, length, OnOk, OnErr};
+ghost use Rattle.std.specs.Prelude.{◌≡◌, ◌<◌, ◌≤◌, [], ◌∷◌, ◌++◌, length, IfOk, OnOk, OnErr};
 ghost use Rattle.mt_universe.specs.Graphs.{number_of, number_or_next, named, named_in};
 ghost use Rattle.std.specs.List.{All};
 
 use mt_term::Name;
-use std::alloc::{AllocError, AllocFailed};
+use std::alloc::{AllocError, AllocFailed, Global};
+use std::clone::Clone;
 
 /// The number of a name.
 pub fn number_of(names: &[Name], name: &Name) -> Option<usize>
@@ -118,4 +119,15 @@ pub fn named_in(below: &[(usize, usize)]) -> usize
         most = most.max(*low + 1).max(*high + 1);
     }
     most
+}
+
+/// A copy of names.
+pub fn copy_names(alloc: Global, names: &[Name]) -> Result<Vec<Name>, AllocError>
+    ensures { IfOk result (λ copied. copied.items ≡ names.now) }
+{
+    let mut copied = Vec::new(alloc);
+    for name in names {
+        copied.push(name.clone()?)?;
+    }
+    Ok(copied)
 }

@@ -1,4 +1,4 @@
-use Rattle.std.proofs.Common.{◌≡◌, ℕ, ◌<◌, ◌≤◌, ◌⊎◌, List, ◌∷◌, [], ◌++◌, length, slice_index, sym, ap, ◌∙◌, subst, inl, inr, arith}
+use Rattle.std.proofs.Common.{◌≡◌, ℕ, ◌≤◌, ◌⊎◌, length, slice_index, sym, ap, ◌∙◌, subst, inl, inr, arith}
 use Rattle.mt_term.specs.UniverseOrder.{more_paths, more_heights}
 use Rattle.mt_universe.specs.Graphs.{Universes, number_or_next, named, declared}
 use Rattle.mt_universe.specs.Tables.{entry}
