@@ -34,3 +34,6 @@ pub mod Below
 pub mod Extend
 pub mod Declare
 pub mod InferenceRules
+pub mod Yields
+pub mod MetaLaws
+pub mod WeakHeadSoundness
