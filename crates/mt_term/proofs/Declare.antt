@@ -13,7 +13,7 @@ use Rattle.mt_term.specs.Stores.{Declared, Store, AllMetas, AllMetasOf, AllMetas
 use Rattle.mt_term.specs.Typing.{Claim, IsContext, IsType, Has, Holds}
 
 module _ (E : Environment) (w : Bool) (closed : ClosedEnv E) (S : Store) (own : Owned S) (r : ℕ → ℕ) (all : RankedAll S r) where
-  lower_owned : (k : ℕ) → Owned (below S r k)
+  pub lower_owned : (k : ℕ) → Owned (below S r k)
   lower_owned k m c e = record { context = both_of (InStore S) (λ j. r j < r m) (InStore (below S r k)) low c.context a.context b.context; ty = both_metas (InStore S) (λ j. r j < r m) (InStore (below S r k)) low c.ty a.ty b.ty; body = λ t h. both_metas (InStore S) (λ j. r j < r m) (InStore (below S r k)) low t (a.body t h) (b.body t h) }
     where
       q : (r m < k) × (S.at m ≡ Some c)

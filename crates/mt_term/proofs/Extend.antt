@@ -46,7 +46,7 @@ module _ (E : Environment) (closed : ClosedEnv E) (S : Store) (own : Owned S) (r
   pub part_inv : (m : ℕ) (c : Declared) → part.at m ≡ Some c → (P m ≡ true) × (S.at m ≡ Some c)
   part_inv m c e = only_inv (P m) (S.at m) c (sym (part_is m) ∙ e)
 
-  part_same : (m : ℕ) → P m ≡ true → part.at m ≡ S.at m
+  pub part_same : (m : ℕ) → P m ≡ true → part.at m ≡ S.at m
   part_same m e = part_is m ∙ ap (λ b. only_if b (S.at m)) e
 
   abbrev f : ℕ → Trees → Tree

@@ -37,3 +37,5 @@ pub mod InferenceRules
 pub mod Yields
 pub mod MetaLaws
 pub mod WeakHeadSoundness
+pub mod ReachLaws
+pub mod SoundStoreLaws
