@@ -39,3 +39,4 @@ pub mod MetaLaws
 pub mod WeakHeadSoundness
 pub mod ReachLaws
 pub mod SoundStoreLaws
+pub mod ComparisonSoundness
