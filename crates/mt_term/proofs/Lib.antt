@@ -7,6 +7,7 @@ pub mod Charged
 pub mod KnotLaws
 pub mod WeakHeadLaws
 pub mod Subst
+pub mod Passed
 pub mod Steps
 pub mod Moves
 pub mod Agree

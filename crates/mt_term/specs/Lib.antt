@@ -4,6 +4,8 @@ pub mod TreeCode
 pub mod Seen
 pub mod Declarations
 pub mod Substitution
+pub mod Passing
+pub mod Replaced
 pub mod Charges
 pub mod FirstTerms
 pub mod Reduction

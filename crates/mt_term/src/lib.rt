@@ -1,30 +1,38 @@
 //! Terms, environments and states as plain trees, and the definitions of the calculus that every layer cites.
 #![tactic(auto)]
 
+mod alikeness;
 mod constructors;
 mod copies;
+mod depth;
 pub mod derivations;
 mod entries;
 mod environment;
 mod equations;
 mod hypotheses;
+mod lifting;
 mod modes;
 mod names;
 mod notes;
 mod refusals;
+mod replacement;
 mod states;
 mod stores;
+mod substitution;
 mod terms;
 #[cfg(test)]
 mod tests;
 mod universes;
 
+pub use alikeness::alike;
 pub use constructors::{Cons, Constructor};
 pub use copies::{copy, copy_branches, copy_terms};
+pub use depth::{MOST_DEEP, deeper};
 pub use entries::{Entries, Entry};
 pub use environment::{Pairs, PlainEnv};
 pub use equations::{PlainEq, PlainEqs};
 pub use hypotheses::{Hyp, Hyps};
+pub use lifting::lift;
 pub use modes::Mode;
 pub use names::{Name, Names};
 pub use notes::{Note, Notes, PlainHint};
@@ -32,5 +40,6 @@ pub use refusals::{Fault, Halt, Refusal, Stop};
 pub use states::{GoalMarks, PlainProof, PlainState};
 pub use std::alloc::AllocError as OutOfMemory;
 pub use stores::{Metas, PlainMeta, PlainStore};
+pub use substitution::{filled, substitute, under};
 pub use terms::{Branch, Branches, Term, Terms};
 pub use universes::{Atom, Atoms, Sort, UnivExpr};
