@@ -41,3 +41,4 @@ pub mod WeakHeadSoundness
 pub mod ReachLaws
 pub mod SoundStoreLaws
 pub mod ComparisonSoundness
+pub mod InstanceLaws
