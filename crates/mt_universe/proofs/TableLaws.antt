@@ -1,12 +1,12 @@
 -- What the entries of a table are.
-use Rattle.std.proofs.Common.{◌≡◌, ℕ, ◌+◌, ◌*◌, ◌/◌, ◌%◌, ◌<◌, ◌≤◌, max, ltb, ◌&&◌, List, ◌++◌, length, take, drop, subst, get_or, sym, ◌∙◌, ap, inl, inr, arith}
+use Rattle.std.proofs.Common.{◌≡◌, ◌≢◌, ℕ, ◌+◌, ◌*◌, ◌/◌, ◌%◌, ◌<◌, ◌≤◌, max, ltb, ◌&&◌, List, ◌++◌, length, set, get_or-set_same, get_or-set_other, take, drop, subst, get_or, sym, ◌∙◌, inl, inr, arith}
 use Rattle.std.proofs.lemmas.Bool.{cases_lt, lt-ltb, le-ltb, cond-true, cond-false, and_from, and_left, and_right}
 use Rattle.std.proofs.lemmas.Bool.Decides.{nat_tests}
 use Rattle.std.proofs.lemmas.List.{get_or_default, get_or_past}
 use Rattle.std.proofs.Math.Seq.{take-append_seam}
 use Rattle.mt_term.specs.UniverseOrder.{joined, more_paths, more_heights}
 use Rattle.mt_term.proofs.UniverseOrderLaws.{joined_cases}
-use Rattle.mt_universe.specs.Tables.{alone, entry, more_at, AreFresh}
+use Rattle.mt_universe.specs.Tables.{alone, entry, AreFresh}
 
 pub entry_in : (t : List ℕ) (a b : ℕ) → a < 256 → b < 256 → entry t a b ≡ get_or t (256 * a + b) (alone a b)
 unfolding entry
@@ -34,57 +34,36 @@ entries_all t F size at row column a b =
       ]
     ]
 
--- what stands at a place is the entry of its row and column
-pub entry_at : (t : List ℕ) (k : ℕ) → length t ≡ 65536 → k < 65536 → entry t (k / 256) (k % 256) ≡ get_or t k 0
-entry_at t k size lt =
-    let e : 256 * (k / 256) + k % 256 ≡ k = omega arith in
-    entry_in t (k / 256) (k % 256) (omega arith) (omega arith)
-    ∙ get_or_default t (256 * (k / 256) + k % 256) (alone (k / 256) (k % 256)) 0 (omega arith)
-    ∙ ap (λ n. get_or t n 0) e
-
 alone_apart : (a b : ℕ) → a < 256 → 256 ≤ b → alone a b ≡ 0
 alone_apart a b p q = grind (arith, nat_tests)
 
 alone_apart_back : (a b : ℕ) → 256 ≤ a → b < 256 → alone a b ≡ 0
 alone_apart_back a b p q = grind (arith, nat_tests)
 
--- In a table that gets the paths of one constraint more, place by place, the lengths that are read stay.
-module _ (now before : List ℕ) (low high : ℕ) (size : length now ≡ 65536) (had : length before ≡ 65536) (low_in : low < 256) (high_in : high < 256) where
-  more_past_row : (a b : ℕ) → 256 ≤ a → more_paths (entry before) low high a b ≡ alone a b
-  more_past_row a b p = grind (arith, joined_cases (entry before a low) (entry before high b), entry_past_row before a b p, entry_past_row before a low p, alone_apart_back a low p low_in)
+-- A write at the place of a row and a column.
+module _ (t : List ℕ) (row b v : ℕ) (size : length t ≡ 65536) (row_in : row < 256) (b_in : b < 256) where
+  pub entry_written : entry (set t (256 * row + b) v) row b ≡ v
+  entry_written = entry_in (set t (256 * row + b) v) row b row_in b_in ∙ get_or-set_same t (256 * row + b) v (alone row b) (omega arith)
 
-  more_past_column : (a b : ℕ) → 256 ≤ b → more_paths (entry before) low high a b ≡ alone a b
-  more_past_column a b p = grind (arith, joined_cases (entry before a low) (entry before high b), entry_past_column before a b p, entry_past_column before high b p, alone_apart high b high_in p)
-
-  pub all_more : ((k : ℕ) → k < 65536 → get_or now k 0 ≡ more_at before low high k) → (a b : ℕ) → entry now a b ≡ more_paths (entry before) low high a b
-  all_more at = entries_all now (more_paths (entry before) low high) size at more_past_row more_past_column
-
-  pub more_here : (k : ℕ) → k < 65536 → get_or now k 0 ≡ get_or before k 0 → max (get_or now k 0) (joined (entry before (k / 256) low) (entry before high (k % 256))) ≡ more_at before low high k
-  more_here k lt e = ap (λ n. max n (joined (entry before (k / 256) low) (entry before high (k % 256)))) (e ∙ sym (entry_at before k had lt))
-
-  module _ (i : ℕ) (back : entry before high low ≡ 0) (done : (k : ℕ) → k < i → get_or now k 0 ≡ more_at before low high k) (rest : (k : ℕ) → i ≤ k → get_or now k 0 ≡ get_or before k 0) where
-    kept : (a b : ℕ) → a < 256 → b < 256 → more_paths (entry before) low high a b ≡ entry before a b → entry now a b ≡ entry before a b
-    kept a b p q same =
-        let k = 256 * a + b in
-        let e : k / 256 ≡ a = omega arith in
-        let f : k % 256 ≡ b = omega arith in
-        let read = entry_in now a b p q ∙ get_or_default now k (alone a b) 0 (omega arith) in
-        elim (cases_lt k i) [
-          | inl lt ↦ read ∙ done k lt ∙ (λ j. more_paths (entry before) low high (e j) (f j)) ∙ same
-          | inr ge ↦ read ∙ rest k ge ∙ get_or_default before k 0 (alone a b) (omega arith) ∙ sym (entry_in before a b p q)
+  pub entry_beside : (p q : ℕ) → (p ≡ row → q ≢ b) → entry (set t (256 * row + b) v) p q ≡ entry t p q
+  entry_beside p q apart =
+      elim (cases_lt p 256) [
+        | inr past ↦ entry_past_row (set t (256 * row + b) v) p q past ∙ sym (entry_past_row t p q past)
+        | inl p_in ↦ elim (cases_lt q 256) [
+          | inr past ↦ entry_past_column (set t (256 * row + b) v) p q past ∙ sym (entry_past_column t p q past)
+          | inl q_in ↦ (let ne : (256 * p + q) ≢ (256 * row + b) = λ e. let same : p ≡ row = omega arith in apart same (omega arith) in
+              entry_in (set t (256 * row + b) v) p q p_in q_in ∙ get_or-set_other t (256 * row + b) (256 * p + q) v (alone p q) ne ∙ sym (entry_in t p q p_in q_in))
         ]
+      ]
 
-    pub kept_column : (a : ℕ) → entry now a low ≡ entry before a low
-    kept_column a = elim (cases_lt a 256) [
-      | inl p ↦ kept a low p low_in (grind (arith, joined_cases (entry before a low) (entry before high low)))
-      | inr p ↦ entry_past_row now a low p ∙ sym (entry_past_row before a low p)
-    ]
+-- The lengths with one constraint more, where the table has none.
+module _ (before : List ℕ) (low high : ℕ) (low_in : low < 256) (high_in : high < 256) where
+  pub more_past_row : (a b : ℕ) → 256 ≤ a → more_paths (entry before) low high a b ≡ entry before a b
+  more_past_row a b p = grind (arith, joined_cases (entry before a low) (entry before high b), entry_past_row before a low p, alone_apart_back a low p low_in)
 
-    pub kept_row : (b : ℕ) → entry now high b ≡ entry before high b
-    kept_row b = elim (cases_lt b 256) [
-      | inl p ↦ kept high b high_in p (grind (arith, joined_cases (entry before high low) (entry before high b)))
-      | inr p ↦ entry_past_column now high b p ∙ sym (entry_past_column before high b p)
-    ]
+pub joined_past_column : (before : List ℕ) (row into high b : ℕ) → high < 256 → 256 ≤ b → max (entry before row b) (joined into (entry before high b)) ≡ entry before row b
+joined_past_column before row into high b p q =
+    grind (arith, joined_cases into (entry before high b), entry_past_column before high b q, alone_apart high b p q)
 
 -- the heights past the table are 0 and stay so
 pub more_heights_past : (hs t : List ℕ) (low high b : ℕ) → length hs ≡ 256 → high < 256 → 256 ≤ b → more_heights (entry t) (λ x. get_or hs x 0) low high b ≡ 0

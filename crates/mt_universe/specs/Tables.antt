@@ -1,6 +1,5 @@
 -- Path lengths as the program keeps them: a table with a row of 256 for each name.
-use Rattle.std.specs.Prelude.{◌≡◌, ℕ, ◌+◌, ◌*◌, ◌/◌, ◌%◌, ◌&&◌, ◌==◌, nat_lt, if◌then◌else◌, List, length, slice_index, slice_index_or}
-use Rattle.mt_term.specs.UniverseOrder.{more_paths}
+use Rattle.std.specs.Prelude.{◌≡◌, ℕ, ◌+◌, ◌*◌, ◌&&◌, ◌==◌, nat_lt, if◌then◌else◌, List, length, slice_index, slice_index_or}
 
 -- how many names stand on the path of a name alone
 abbrev pub alone : ℕ → ℕ → ℕ
@@ -9,10 +8,6 @@ alone a b = if a == b then 1 else 0
 -- the length that a table says; a name that it does not have is on no path but its own
 unfoldable pub entry : List ℕ → ℕ → ℕ → ℕ
 entry table a b = if nat_lt a 256 && nat_lt b 256 then slice_index_or table (256 * a + b) (alone a b) else alone a b
-
--- what stands at a place of the table with one constraint more
-abbrev pub more_at : List ℕ → ℕ → ℕ → ℕ → ℕ
-more_at table low high k = more_paths (entry table) low high (k / 256) (k % 256)
 
 -- tables of no constraints
 pub record AreFresh (paths heights : List ℕ) : Type 0 where

@@ -1,5 +1,5 @@
 // Lengths of the longest paths and heights of names, kept in tables.
-ghost use Rattle.std.specs.Prelude.{◌≡◌, ℕ, ◌+◌, ◌<◌, ◌≤◌, ◌==◌, length, slice_index, OnOk, OnErr};
+ghost use Rattle.std.specs.Prelude.{◌≡◌, ◌≢◌, ℕ, ◌+◌, ◌<◌, ◌≤◌, max, ◌==◌, length, slice_index, OnOk, OnErr};
 ghost use Rattle.mt_term.specs.UniverseOrder.{joined, more_paths, more_heights};
 ghost use Rattle.mt_universe.specs.Tables.{alone, entry, AreFresh};
 
@@ -45,6 +45,27 @@ pub fn clear(paths: &mut [u16])
     }
 }
 
+/// The paths from a name, where one on which `into` names stand comes to a name below `high`.
+fn extend_row(paths: &mut [u16], row: usize, into: u16, high: usize)
+    requires size { length paths.old ≡ LENGTHS }
+    requires row_in { row < NAMES }
+    requires high_in { high < NAMES }
+    requires apart { 0 < into → row ≢ high }
+    requires short { (b : ℕ) → into + entry paths.old high b < 65536 }
+    ensures row { (b : ℕ) → entry paths.new row b
+        ≡ max (entry paths.old row b) (joined into (entry paths.old high b)) }
+    ensures others { (a b : ℕ) → a ≢ row → entry paths.new a b ≡ entry paths.old a b }
+{
+    if into == 0 {
+        return;
+    }
+    for b in 0..NAMES {
+        let through = join(into, length_of(paths, high, b));
+        let i = NAMES * row + b;
+        paths[i] = paths[i].max(through);
+    }
+}
+
 /// The paths with the constraint that `low` is below `high`, from where none leads back.
 pub fn extend_paths(paths: &mut [u16], low: usize, high: usize)
     requires size { length paths.old ≡ LENGTHS }
@@ -54,11 +75,9 @@ pub fn extend_paths(paths: &mut [u16], low: usize, high: usize)
     requires back { entry paths.old high low ≡ 0 }
     ensures { (a b : ℕ) → entry paths.new a b ≡ more_paths (entry paths.old) low high a b }
 {
-    for i in 0..LENGTHS {
-        let into = length_of(paths, i / NAMES, low);
-        let onward = length_of(paths, high, i % NAMES);
-        let through = join(into, onward);
-        paths[i] = paths[i].max(through);
+    for a in 0..NAMES {
+        let into = length_of(paths, a, low);
+        extend_row(paths, a, into, high);
     }
 }
 
