@@ -42,3 +42,5 @@ pub mod ReachLaws
 pub mod SoundStoreLaws
 pub mod ComparisonSoundness
 pub mod InstanceLaws
+pub mod InferenceParts
+pub mod InferenceSoundness

@@ -73,6 +73,11 @@ lifted_type by (Some h) = Some (lift by zero h.ty)
 abbrev pub type_at : List Hypothesis → ℕ → Option Tree
 type_at Γ i = lifted_type (suc i) (slice_get Γ i)
 
+-- the types of a context, as judgements see it
+abbrev pub context_types : List Hypothesis → List Tree
+context_types [] = []
+context_types (h ∷ Γ) = h.ty ∷ context_types Γ
+
 -- the declared types of a constant, an inductive type and a constructor
 abbrev pub constant_type : Option Declaration → Option Tree
 constant_type None = None
