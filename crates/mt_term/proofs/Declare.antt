@@ -4,12 +4,13 @@ use Rattle.mt_term.proofs.Steps.{ClosedEnv}
 use Rattle.mt_term.proofs.Agree.{both_metas, both_of}
 use Rattle.mt_term.proofs.Images.{none_some, some_inj, some_of, is_some_at}
 use Rattle.mt_term.proofs.Renames.{larger_store}
+use Rattle.mt_term.proofs.ReachLaws.{all_of_held, held_of_all}
 use Rattle.mt_term.proofs.Instance.{choose}
 use Rattle.mt_term.proofs.Below.{RankedAll, SoundBelow, below, below_inv, below_has, either}
 use Rattle.std.proofs.lemmas.Bool.Decides.{eqb_tells}
 use Rattle.mt_term.specs.Trees.{Tree}
 use Rattle.mt_term.specs.Declarations.{Environment}
-use Rattle.mt_term.specs.Stores.{Declared, Store, AllMetas, AllMetasOf, AllMetasHeld, InStore, Owned}
+use Rattle.mt_term.specs.Stores.{Declared, Store, AllMetas, AllMetasOf, AllMetasHeld, InStore, Owned, MentionsHeld}
 use Rattle.mt_term.specs.Typing.{Claim, IsContext, IsType, Has, Holds}
 
 module _ (E : Environment) (w : Bool) (closed : ClosedEnv E) (S : Store) (own : Owned S) (r : ℕ → ℕ) (all : RankedAll S r) where
@@ -55,7 +56,7 @@ module _ (E : Environment) (w : Bool) (closed : ClosedEnv E) (S : Store) (own : 
     unfolding more
     more_is m = refl
 
-    abbrev most : ℕ → ℕ
+    abbrev pub most : ℕ → ℕ
     most zero = r zero
     most (suc k) = max (r (suc k)) (most k)
 
@@ -71,7 +72,7 @@ module _ (E : Environment) (w : Bool) (closed : ClosedEnv E) (S : Store) (own : 
     abbrev pub more_rank : ℕ → ℕ
     more_rank m = choose (eqb n m) (suc (most (S.bound))) (r m)
 
-    is_n : (m : ℕ) → ((n ≡ m) × (more.at m ≡ Some d) × (more_rank m ≡ suc (most (S.bound)))) ⊎ ((n ≢ m) × (more.at m ≡ S.at m) × (more_rank m ≡ r m))
+    pub is_n : (m : ℕ) → ((n ≡ m) × (more.at m ≡ Some d) × (more_rank m ≡ suc (most (S.bound)))) ⊎ ((n ≢ m) × (more.at m ≡ S.at m) × (more_rank m ≡ r m))
     is_n m = go (eqb_tells n m)
       where
         go : ((eqb n m ≡ true) × (n ≡ m)) ⊎ ((eqb n m ≡ false) × (n ≢ m)) → ((n ≡ m) × (more.at m ≡ Some d) × (more_rank m ≡ suc (most (S.bound)))) ⊎ ((n ≢ m) × (more.at m ≡ S.at m) × (more_rank m ≡ r m))
@@ -79,7 +80,7 @@ module _ (E : Environment) (w : Bool) (closed : ClosedEnv E) (S : Store) (own : 
         go (inr e) = inr (e.1, more_is m ∙ ap (λ b. choose b (Some d) (S.at m)) e.0, ap (λ b. choose b (suc (most (S.bound))) (r m)) e.0)
 
     -- an old one keeps its declaration and number, which is lower
-    old_at : (m : ℕ) (c : Declared) → S.at m ≡ Some c → (more.at m ≡ Some c) × (more_rank m ≡ r m) × (r m < suc (most (S.bound)))
+    pub old_at : (m : ℕ) (c : Declared) → S.at m ≡ Some c → (more.at m ≡ Some c) × (more_rank m ≡ r m) × (r m < suc (most (S.bound)))
     old_at m c e = go (is_n m)
       where
         small : r m < suc (most (S.bound))
@@ -105,3 +106,35 @@ module _ (E : Environment) (w : Bool) (closed : ClosedEnv E) (S : Store) (own : 
         go : ((n ≡ m) × (more.at m ≡ Some d) × (more_rank m ≡ suc (most (S.bound)))) ⊎ ((n ≢ m) × (more.at m ≡ S.at m) × (more_rank m ≡ r m)) → SoundBelow E w more more_rank m c
         go (inl x) = subst (SoundBelow E w more more_rank m) (some_inj (sym x.1 ∙ e)) (record { context = all_of x.2 (d.context) IsContext context; ty = all_of x.2 (d.context) (IsType (d.ty)) ty; body = λ b h. absurd (none_some (sym opened ∙ h)) })
         go (inr x) = let s = sound m c (sym x.1 ∙ e) in let l : r m ≤ more_rank m = omega (arith, x.2) in record { context = lift (r m) l (c.context) IsContext s.context; ty = lift (r m) l (c.context) (IsType (c.ty)) s.ty; body = λ b h. lift (r m) l (c.context) (Has b (c.ty)) (s.body b h) }
+
+    own_d : AllMetasHeld (InStore S) d
+    own_d = record { context = own_context; ty = own_ty; body = λ b h. absurd (none_some (sym opened ∙ h)) }
+
+    pub more_owned : Owned more
+    more_owned m c e = go (is_n m)
+      where
+        wide : (a : Declared) → AllMetasHeld (InStore S) a → AllMetasHeld (InStore more) a
+        wide a h = all_of_held (InStore more) a (λ j x. let z = some_of (S.at j) (held_of_all (InStore S) j a h x) in is_some_at (old_at j z.0 z.1).0)
+
+        go : ((n ≡ m) × (more.at m ≡ Some d) × (more_rank m ≡ suc (most (S.bound)))) ⊎ ((n ≢ m) × (more.at m ≡ S.at m) × (more_rank m ≡ r m)) → AllMetasHeld (InStore more) c
+        go (inl x) = subst (AllMetasHeld (InStore more)) (some_inj (sym x.1 ∙ e)) (wide d own_d)
+        go (inr x) = wide c (own m c (sym x.1 ∙ e))
+
+    pub more_all : RankedAll more more_rank
+    more_all m c e = go (is_n m)
+      where
+        low : (a : Declared) → AllMetasHeld (InStore S) a → (b : ℕ) → ((j : ℕ) → MentionsHeld j a → r j < suc (most (S.bound)) → r j < b) → AllMetasHeld (λ j. more_rank j < b) a
+        low a h b l = all_of_held (λ j. more_rank j < b) a (λ j x. let z = some_of (S.at j) (held_of_all (InStore S) j a h x) in let o = old_at j z.0 z.1 in let y : r j < b = l j x o.2 in omega (arith, y, o.1))
+
+        go : ((n ≡ m) × (more.at m ≡ Some d) × (more_rank m ≡ suc (most (S.bound)))) ⊎ ((n ≢ m) × (more.at m ≡ S.at m) × (more_rank m ≡ r m)) → AllMetasHeld (λ j. more_rank j < more_rank m) c
+        go (inl x) = subst (AllMetasHeld (λ j. more_rank j < more_rank m)) (some_inj (sym x.1 ∙ e)) (low d own_d (more_rank m) (λ j y l. omega (arith, l, x.2)))
+        go (inr x) =
+            let g : S.at m ≡ Some c = sym x.1 ∙ e in
+            low c (own m c g) (more_rank m) (λ j y l. let z : r j < r m = held_of_all (λ j. r j < r m) j c (all m c g) y in omega (arith, z, x.2))
+
+    pub more_here : (m : ℕ) → ((n ≡ m) × (more.at m ≡ Some d)) ⊎ ((n ≢ m) × (more.at m ≡ S.at m))
+    more_here m = go (is_n m)
+      where
+        go : ((n ≡ m) × (more.at m ≡ Some d) × (more_rank m ≡ suc (most (S.bound)))) ⊎ ((n ≢ m) × (more.at m ≡ S.at m) × (more_rank m ≡ r m)) → ((n ≡ m) × (more.at m ≡ Some d)) ⊎ ((n ≢ m) × (more.at m ≡ S.at m))
+        go (inl x) = inl (x.0, x.1)
+        go (inr x) = inr (x.0, x.1)

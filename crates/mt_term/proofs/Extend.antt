@@ -101,11 +101,11 @@ module _ (E : Environment) (closed : ClosedEnv E) (S : Store) (own : Owned S) (r
       let h2 : Holds E true T Γ J = subst₂ (λ Δ C. Holds E true T Δ C) e1 e2 h1 in
       k_metas refl widens (weaker_of Q (λ k. part.at k ≡ T.at k) T_same Γ g) (weaker_claim Q (λ k. part.at k ≡ T.at k) T_same J j) h2
 
-abbrev most : (ℕ → ℕ) → ℕ → ℕ
+abbrev pub most : (ℕ → ℕ) → ℕ → ℕ
 most r zero = r zero
 most r (suc k) = max (r (suc k)) (most r k)
 
-le_most : (r : ℕ → ℕ) (k m : ℕ) → m ≤ k → r m ≤ most r k
+pub le_most : (r : ℕ → ℕ) (k m : ℕ) → m ≤ k → r m ≤ most r k
 le_most r zero zero h = omega arith
 le_most r zero (suc m) h = absurd (omega arith)
 le_most r (suc k) m h = go (le_most r k m) (eqb_tells m (suc k))
@@ -121,7 +121,7 @@ le_most r (suc k) m h = go (le_most r k m) (eqb_tells m (suc k))
 module _ (E : Environment) (closed : ClosedEnv E) (S : Store) (own : Owned S) (r : ℕ → ℕ) (all : RankedAll S r) (sound : (n : ℕ) (d : Declared) → S.at n ≡ Some d → SoundBelow E true S r n d) (P : ℕ → Bool) (shut : Shut S P)
     (n : ℕ) (d : Declared) (at_n : S.at n ≡ Some d) (opened : d.body ≡ None) (v : Tree) (typed : Holds E true S (d.context) (Has v (d.ty)))
     (apart : P n ≡ false) (in_context : AllMetasOf (λ k. P k ≡ true) (d.context)) (in_ty : AllMetas (λ k. P k ≡ true) (d.ty)) (in_value : AllMetas (λ k. P k ≡ true) v) (own_v : AllMetas (InStore S) v) where
-  abbrev filled : Declared
+  abbrev pub filled : Declared
   filled = record { context = d.context; ty = d.ty; body = Some v }
 
   abbrev next_at : ℕ → Option Declared
@@ -149,7 +149,7 @@ module _ (E : Environment) (closed : ClosedEnv E) (S : Store) (own : Owned S) (r
       go (inl e) = e.0
       go (inr e) = absurd (e.1 refl)
 
-  next_other : (m : ℕ) → n ≢ m → next.at m ≡ S.at m
+  pub next_other : (m : ℕ) → n ≢ m → next.at m ≡ S.at m
   next_other m x = next_is m ∙ ap (λ b. choose b (Some filled) (S.at m)) (go (eqb_tells n m))
     where
       go : ((eqb n m ≡ true) × (n ≡ m)) ⊎ ((eqb n m ≡ false) × (n ≢ m)) → eqb n m ≡ false

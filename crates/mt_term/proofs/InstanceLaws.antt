@@ -34,11 +34,11 @@ mutual
   any_metas_arms (Arm xs b bs) = (any_metas b, any_metas_arms bs)
 
 -- none is kept as it is
-abbrev none_kept : ℕ → Bool
+abbrev pub none_kept : ℕ → Bool
 none_kept n = false
 
 module _ (S : Store) (r : ℕ → ℕ) (own : Owned S) (all : RankedAll S r) where
-  none_shut : Shut S none_kept
+  pub none_shut : Shut S none_kept
   none_shut n d p e = absurd (true≢false (sym p))
 
   falls : Ranked S r

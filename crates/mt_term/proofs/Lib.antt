@@ -44,3 +44,4 @@ pub mod ComparisonSoundness
 pub mod InstanceLaws
 pub mod InferenceParts
 pub mod InferenceSoundness
+pub mod StoreSteps

@@ -40,3 +40,4 @@ pub mod SoundEnvironment
 pub mod Instances
 pub mod SoundStore
 pub mod Laws
+pub mod StoreLaws

@@ -1,5 +1,6 @@
-// The laws over derivations: each function does nothing, and its clause is the law.
+// The laws over derivations and stores: each function does nothing, and its clause is the law.
 ghost use Rattle.mt_term.specs.Laws.{ContextLaw, WeakeningLaw, SubstitutionLaw, OneTermLaw, GrowthLaw, StrictLaw, ScopeLaw, ExtensionLaw, RenumberingLaw};
+ghost use Rattle.mt_term.specs.StoreLaws.{OneInstanceLaw, InstanceLaw, SoundInstancesLaw, DeclareLaw, AssignLaw};
 
 /// The context of a judgement is a context.
 pub fn context_of_judgement()
@@ -44,4 +45,29 @@ pub fn extension_of_store()
 /// A judgement holds with its metavariables under new numbers.
 pub fn renumbering()
     ensures law { RenumberingLaw }
+{}
+
+/// Over a sound store each term has one instance.
+pub fn one_instance()
+    ensures law { OneInstanceLaw }
+{}
+
+/// A judgement over a sound store holds, as instance, over the instance of the store.
+pub fn instance_of_judgement()
+    ensures law { InstanceLaw }
+{}
+
+/// A sound store is sound by instances.
+pub fn sound_by_instances()
+    ensures law { SoundInstancesLaw }
+{}
+
+/// A new open metavariable keeps a store sound.
+pub fn declaring()
+    ensures law { DeclareLaw }
+{}
+
+/// An assignment keeps a store sound.
+pub fn assigning()
+    ensures law { AssignLaw }
 {}
