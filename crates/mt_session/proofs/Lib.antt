@@ -5,3 +5,5 @@ pub mod Reading
 pub mod Stepping
 pub mod Endings
 pub mod Soundness
+pub mod Numbers
+pub mod Fresh

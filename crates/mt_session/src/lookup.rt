@@ -1,23 +1,24 @@
 // The names in use.
-ghost use Rattle.std.specs.Prelude.{◌≡◌, ◌<◌, [], ◌∷◌, ◌++◌, length, IfSome, OnOk, OnErr};
+ghost use Rattle.std.specs.Prelude.{◌≡◌, ◌<◌, None, [], ◌∷◌, ◌++◌, length, IfSome, OnOk, OnErr};
 ghost use Rattle.mt_session.specs.Units.{find};
 
-use mt_term::{Name, Names, OutOfMemory};
-use std::alloc::Global;
+use indexmap::IndexSet;
+use mt_term::OutOfMemory;
+use std::alloc::{AllocFailed, Global};
 use std::marker::Model;
 
 /// The names of entries, oldest first, by which their numbers are found.
 #[derive(Drop)]
 pub struct Table {
-    names: Names,
+    names: IndexSet<Vec<u8>>,
 }
 
 impl Model for Table {
-    ghost use Rattle.std.specs.Prelude.{ℕ, List};
+    ghost use Rattle.std.specs.Prelude.{ℕ, List, map};
 
     ghost Value = { List (List ℕ) };
 
-    ghost view = { λ t. t.names };
+    ghost view = { λ t. map (λ v. v.items) t.names.keys };
 }
 
 impl Table {
@@ -26,16 +27,19 @@ impl Table {
         ensures { result ≡ [] }
     {
         Table {
-            names: Names::new(alloc),
+            names: IndexSet::new(alloc),
         }
     }
 
-    /// Adds the name of the next entry.
-    pub fn add(&mut self, name: Name) -> Result<(), OutOfMemory>
-        ensures ok { OnOk result (self.new ≡ self.old ++ name ∷ []) }
+    /// Adds the name of the next entry, which is not in use.
+    pub fn add(&mut self, alloc: Global, name: &[u8]) -> Result<(), OutOfMemory>
+        requires { find self.old name.now ≡ None }
+        ensures ok { OnOk result (self.new ≡ self.old ++ name.now ∷ []) }
         ensures err { OnErr result (self.new ≡ self.old) }
     {
-        self.names.push(name)
+        let name = name.to_vec(alloc)?;
+        self.names.insert(name)?;
+        Ok(())
     }
 
     /// The number of the entry of a name.
@@ -43,18 +47,6 @@ impl Table {
         ensures is { result ≡ find self.now word.now }
         ensures there { IfSome result (λ n. n < length self.now) }
     {
-        number_in(self.names.as_slice(), word)
+        self.names.get_index_of(word)
     }
-}
-
-fn number_in(names: &[Name], word: &[u8]) -> Option<usize>
-    ensures is { result ≡ find names.now word.now }
-    ensures there { IfSome result (λ n. n < length names.now) }
-{
-    for (n, name) in names.iter().enumerate() {
-        if name.as_bytes() == word {
-            return Some(n);
-        }
-    }
-    None
 }
