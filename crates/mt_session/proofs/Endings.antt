@@ -1,5 +1,5 @@
 -- From what was read to what is written.
-use Rattle.std.proofs.Common.{◌≡◌, ◌<◌, ◌≤◌, ℕ, ◌+◌, Bool, true, false, List, [], ◌++◌, length, take, Option, Some, None, IfSome, refl, ap, ◌∙◌, sym, subst, arith, append-nil, length-append}
+use Rattle.std.proofs.Common.{◌≡◌, ◌<◌, ◌≤◌, ℕ, Bool, true, false, List, [], length, Option, Some, None, IfSome, refl, ap, ◌∙◌, sym, subst, arith}
 use Rattle.std.specs.Prelude.{if◌then◌else◌, nat_lt}
 use Rattle.std.specs.Str.{is_utf8, IsUtf8}
 use Rattle.std.proofs.lemmas.Str.{is_utf8-from_IsUtf8, IsUtf8-from_is_utf8}
@@ -7,9 +7,8 @@ use Rattle.std.proofs.lemmas.Bool.Decides.{nat_tests}
 use Rattle.std.specs.Io.KnownBytes.{Appends}
 use Rattle.std.proofs.KnownBytes.{Appends-nil}
 use Rattle.mt_text.specs.Causes.{AppendsPrefix}
-use Rattle.mt_session.specs.declared.serving.Status.{Status}
 use Rattle.mt_session.specs.declared.serving.Status.TheVariants.{Done, Refused, BadFrame}
-use Rattle.mt_session.specs.Runs.{Run, run, run_text, is_clean, is_script, output_of, status_of, most}
+use Rattle.mt_session.specs.Runs.{run, run_text, is_clean, is_script, output_of, status_of, most}
 
 pub script_short : (b : List ℕ) → length b ≤ most → is_script b ≡ is_utf8 b
 script_short b le = let e : nat_lt most (length b) ≡ false = grind (arith, nat_tests) in ap (λ t. if t then false else is_utf8 b) e

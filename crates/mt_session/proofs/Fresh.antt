@@ -8,12 +8,8 @@ use Rattle.mt_session.specs.declared.tokens.Kind.{Kind}
 use Rattle.mt_session.specs.declared.tokens.Kind.TheVariants.{Word, End}
 use Rattle.mt_session.specs.declared.tokens.Token.{Token}
 use Rattle.mt_session.specs.Tokens.{next_token}
-use Rattle.mt_session.specs.Units.{Reading, Got, Lacks, then_read, AUnit, name_of, find, word_of, is_reserved, is_taken, name_read, new_name, sign, head, term_then, axiom_read, definition_read, entry_read, unit_read, unit}
-
--- what a sequence reads, its parts read
-then_got : {A B : Type 0} (d : Reading A) (k : A → ℕ → Reading B) (b : B) (e : ℕ) → then_read d k ≡ Got b e → (a : A) × (m : ℕ) × (d ≡ Got a m) × (k a m ≡ Got b e)
-then_got (Got a m) k b e h = (a, m, refl, h)
-then_got (Lacks at) k b e h = let no : ⊥ = cc in absurd no
+use Rattle.mt_session.proofs.Reading.{then_got}
+use Rattle.mt_session.specs.Units.{Got, Lacks, then_read, AUnit, name_of, find, word_of, is_reserved, is_taken, name_read, new_name, sign, head, term_then, axiom_read, definition_read, entry_read, unit_read, unit}
 
 name_new : (xs : List Bytes) (w : Bytes) (tok : Token) (r : Bool) (o : Option ℕ) (x : Bytes) (e : ℕ) → find xs w ≡ o → (if r || is_taken o then Lacks tok.start else Got w tok.end) ≡ Got x e → find xs x ≡ None
 name_new xs w tok true o x e f h = let no : ⊥ = cc in absurd no

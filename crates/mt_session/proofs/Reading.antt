@@ -1,10 +1,10 @@
 -- What is read is known: the constants of a unit are numbers of entries.
-use Rattle.std.proofs.Common.{◌≡◌, ◌<◌, ℕ, zero, suc, ◌+◌, Bool, true, false, List, [], ◌∷◌, ◌++◌, length, Option, Some, None, refl, sym, ◌∙◌, ap, subst, arith}
+use Rattle.std.proofs.Common.{◌≡◌, ◌<◌, ℕ, suc, ◌+◌, Bool, true, false, List, [], ◌∷◌, length, Option, Some, None, refl, ap, subst, arith}
 use Rattle.std.specs.Prelude.{if◌then◌else◌, bytes_eq, codes}
 use Rattle.mt_term.specs.Trees.{Tree, Bytes, Const}
 use Rattle.mt_term.specs.Declarations.{Declaration, Axiom, Definition}
 use Rattle.mt_term.specs.FirstTerms.{prop, type_at, IsKnown, IsKnownEntry}
-use Rattle.mt_session.specs.declared.tokens.Sign.TheVariants.{Colon, Dot, Open, Close, Becomes}
+use Rattle.mt_session.specs.declared.tokens.Sign.TheVariants.{Dot, Open, Close, Becomes}
 use Rattle.mt_session.specs.declared.tokens.Sign.{Sign}
 use Rattle.mt_session.specs.declared.tokens.Kind.{Kind}
 use Rattle.mt_session.specs.declared.tokens.Kind.TheVariants.{Word, End}
@@ -13,7 +13,7 @@ use Rattle.mt_session.specs.Tokens.{next_token}
 use Rattle.mt_session.specs.Units.{Reading, Got, Lacks, then_read, Item, AUnit, AtEnd, names_of, find_from, find, word_of, is_reserved, known_read, type_read, term_read, term, sign, number, head, term_then, axiom_read, definition_read, entry_read, unit_read, unit}
 
 -- what a sequence reads, its parts read
-then_got : {A B : Type 0} (d : Reading A) (k : A → ℕ → Reading B) (b : B) (e : ℕ) → then_read d k ≡ Got b e → (a : A) × (m : ℕ) × (d ≡ Got a m) × (k a m ≡ Got b e)
+pub then_got : {A B : Type 0} (d : Reading A) (k : A → ℕ → Reading B) (b : B) (e : ℕ) → then_read d k ≡ Got b e → (a : A) × (m : ℕ) × (d ≡ Got a m) × (k a m ≡ Got b e)
 then_got (Got a m) k b e h = (a, m, refl, h)
 then_got (Lacks at) k b e h = let no : ⊥ = cc in absurd no
 

@@ -1,5 +1,5 @@
 -- Steps of a run.
-use Rattle.std.proofs.Common.{◌≡◌, ◌<◌, ◌≤◌, ℕ, zero, suc, ◌+◌, ◌-◌, List, [], ◌∷◌, ◌++◌, length, Option, Some, None, refl, ap, ◌∙◌, sym, subst, arith, length-append}
+use Rattle.std.proofs.Common.{◌≡◌, ◌<◌, ℕ, zero, suc, ◌+◌, ◌-◌, List, [], ◌∷◌, ◌++◌, length, Option, Some, None, refl, ap, ◌∙◌, sym, subst, arith, length-append}
 use Rattle.std.specs.Prelude.{slice_get, Result, Ok, Err, IfOk, OnOk}
 use Rattle.std.specs.Str.{IsUtf8, IsCharBoundary}
 use Rattle.std.proofs.lemmas.Str.{IsCharBoundary-start}
@@ -13,7 +13,7 @@ use Rattle.mt_session.specs.declared.running.State.{State}
 use Rattle.mt_session.specs.declared.running.Step.{Step}
 use Rattle.mt_session.specs.declared.running.Step.TheVariants.{On, Over}
 use Rattle.mt_session.specs.Units.{Reading, Got, Lacks, Item, AUnit, AtEnd, unit, name_of, names_of}
-use Rattle.mt_session.specs.Runs.{Run, Blame, run, run_from, ended, judged, after_reading, kernel, refusal_of}
+use Rattle.mt_session.specs.Runs.{run, run_from, ended, judged, after_reading, kernel, refusal_of}
 use Rattle.mt_session.specs.Steps.{IsReady, Accepts, Refuses, JudgesEntry, GoesOn, IsOver, run_on, refusal_by, blame_in}
 use Rattle.mt_session.proofs.Reading.{unit_known}
 

@@ -1,5 +1,5 @@
 -- Steps of a run, as the code takes them.
-use Rattle.std.specs.Prelude.{◌≡◌, ◌≤◌, ◌<◌, ℕ, suc, ◌+◌, List, [], ◌∷◌, ◌++◌, Option, Some, None, IfSome}
+use Rattle.std.specs.Prelude.{◌≡◌, ◌≤◌, ◌<◌, ℕ, suc, ◌+◌, [], ◌∷◌, ◌++◌, Option, Some, None}
 use Rattle.std.specs.Str.{IsCharBoundary}
 use Rattle.mt_term.specs.Trees.{Bytes}
 use Rattle.mt_term.specs.Declarations.{Declaration, Reason, KernelRefused, number_of}

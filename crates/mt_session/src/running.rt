@@ -1,9 +1,10 @@
 // A run of a script.
-ghost use Rattle.std.specs.Prelude.{◌≡◌, ◌<◌, ◌≤◌, ◌++◌, [], length, IfOk, OnOk};
+ghost use Rattle.std.specs.Prelude.{◌≡◌, ◌<◌, ◌≤◌, ◌++◌, None, [], length, IfOk, OnOk};
 ghost use Rattle.mt_term.specs.EntryOf.{declaration_of};
 ghost use Rattle.mt_term.specs.FirstTerms.{IsPlainEnv, IsKnownEntry};
 ghost use Rattle.mt_kernel.specs.Answers.{answer_of, verdict_of};
 ghost use Rattle.mt_session.specs.Runs.{kernel, refusal_of, ended, run, run_text, is_clean, reply};
+ghost use Rattle.mt_session.specs.Units.{find, name_of};
 ghost use Rattle.mt_session.specs.Steps.{Accepts, IsReady, IsPlacedFault, JudgesEntry, StepIs, blame_in, reason_in, refusal_by};
 
 use crate::columns::column;
@@ -122,12 +123,13 @@ fn take_entry<L: Ledger>(
 ) -> Result<Step, OutOfMemory>
     requires env { IsPlainEnv state.old.env.entries }
     requires entry { IsKnownEntry state.old.env.entries (declaration_of entry) }
+    requires fresh { find state.old.known (name_of (declaration_of entry)) ≡ None }
     requires room { state.old.units < end }
     ensures { IfOk result (λ s. JudgesEntry state.old state.new start end (declaration_of entry) s) }
 {
     match judge(alloc, &state.env, &entry, steps)? {
         None => {
-            accept(state, end, entry)?;
+            accept(alloc, state, end, entry)?;
             Ok(Step::On)
         }
         Some(refusal) => Ok(Step::Over(Some(Fault { refusal, at: start }))),
@@ -135,12 +137,13 @@ fn take_entry<L: Ledger>(
 }
 
 // Adds an entry that was not refused.
-fn accept(state: &mut State, end: usize, entry: Entry) -> Result<(), OutOfMemory>
+fn accept(alloc: Global, state: &mut State, end: usize, entry: Entry) -> Result<(), OutOfMemory>
+    requires fresh { find state.old.known (name_of (declaration_of entry)) ≡ None }
     requires passed { refusal_of (kernel state.old.env.entries (declaration_of entry)) ≡ None }
     requires room { state.old.units < end }
     ensures { OnOk result (Accepts state.old state.new end (declaration_of entry)) }
 {
-    state.known.add(name_of(&entry).clone()?)?;
+    state.known.add(alloc, name_of(&entry).as_bytes())?;
     state.env.entries.push(entry)?;
     state.units += 1;
     state.place = end;
