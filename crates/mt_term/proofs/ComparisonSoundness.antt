@@ -1,27 +1,24 @@
 -- A yes of the comparison gives conversion, or the order of types.
-use Rattle.std.specs.Prelude.{ℕ, zero, suc, ◌≡◌, refl, List, [], ◌∷◌, length, nat_eq, if◌then◌else◌, Bool, true, false, ◌&&◌, Option, Some, None}
-use Rattle.std.proofs.Common.{sym, ◌∙◌, ap, subst, subst₂, eqb-true}
+use Rattle.std.specs.Prelude.{ℕ, ◌≡◌, refl, length, nat_eq, if◌then◌else◌, Bool, true, false, ◌&&◌, Some}
+use Rattle.std.proofs.Common.{subst, subst₂, eqb-true}
 use Rattle.mt_term.specs.Trees.{Bytes, Tree, Trees, Arms, Var, Sort, Prod, Lam, App, Const, Ind, Con, Match, Meta, End, Item, NoArm, Arm}
 use Rattle.mt_term.specs.declared.universes.Sort.{Sort as AnySort}
 use Rattle.mt_term.specs.declared.universes.Sort.TheVariants.{Prop, Typ}
 use Rattle.mt_term.specs.declared.modes.Mode.{Mode}
 use Rattle.mt_term.specs.declared.modes.Mode.TheVariants.{Equal, AtMost as Below}
-use Rattle.mt_term.specs.Declarations.{Declaration, Environment}
-use Rattle.mt_term.specs.Charges.{Charged, give, ◌>>=◌, charge}
+use Rattle.mt_term.specs.Declarations.{Environment}
+use Rattle.mt_term.specs.Charges.{Charged, give, ◌>>=◌}
 use Rattle.mt_term.specs.Universes.{SortIsAtMost, SortIsSame}
-use Rattle.mt_term.specs.UniverseOrder.{sort_at_most, sort_same}
-use Rattle.mt_term.specs.Alike.{alike, is_alike}
+use Rattle.mt_term.specs.Alike.{is_alike}
 use Rattle.mt_term.specs.Stores.{Declared, Store, AllMetas, AllMetasIn, AllMetasArms, AllMetasHeld}
 use Rattle.mt_term.specs.Conversion.{Conv, same, back, chain, reduct, sorts, prods, lams, app_conv, matches, metas, ConvAll, ends, items, ConvArms, no_arms, arms, AtMost, conv, on, prop, typ, cod}
-use Rattle.mt_term.specs.Knot.{fixed}
 use Rattle.mt_term.specs.WeakHead.{whd}
 use Rattle.mt_term.specs.Comparison.{Question, and_next, ◌and◌, sorts_fit, same_shapes, same_terms, same_bodies, same_spine, same_heads, convert_in, convert_by, compared, convert}
 use Rattle.mt_term.proofs.Steps.{Reduces, done, more}
-use Rattle.mt_term.proofs.Plain.{PlainEntries}
 use Rattle.mt_term.proofs.AlikeLaws.{alike_conv, both}
 use Rattle.mt_term.proofs.UniverseOrderLaws.{sort_at_most_decides, sort_same_decides}
 use Rattle.mt_term.proofs.Yields.{Yields, gives, charges, then_yields, so_yields, fixed_yields, untrue}
-use Rattle.mt_term.proofs.WeakHeadSoundness.{Reached, whd_yields}
+use Rattle.mt_term.proofs.WeakHeadSoundness.{BodyMetas, Reached, whd_yields}
 
 pub reduces_conv : {E : Environment} {T : Store} {t u : Tree} → Reduces E T t u → Conv E T t u
 reduces_conv done = same
@@ -117,10 +114,10 @@ module _ (E : Environment) (T : Store) where
       spine_yields (Match e r c bs) (Match d k t cs) p q =
           if_yields (Same (Match e r c bs) (Match d k t cs)) (nat_eq e d && same_shapes bs cs) (again (Equal, r, k) and again (Equal, c, t) and same_bodies again bs cs) (give false)
           (λ h.
-            let n = both (nat_eq e d) (same_shapes bs cs) h in
-            and_yields (Conv E T r k) (Conv E T c t × ConvArms E T bs cs) (Conv E T (Match e r c bs) (Match d k t cs)) (again (Equal, r, k)) (again (Equal, c, t) and same_bodies again bs cs)
-            (λ f g. subst (λ i. Conv E T (Match e r c bs) (Match i k t cs)) (eqb-true e d n.0) (matches f g.0 g.1)) (asked Equal r k p.0 q.0)
-            (and_yields (Conv E T c t) (ConvArms E T bs cs) (Conv E T c t × ConvArms E T bs cs) (again (Equal, c, t)) (same_bodies again bs cs) (λ f g. (f, g)) (asked Equal c t p.1 q.1) (bodies_yield bs cs p.2 q.2 n.1)))
+          let n = both (nat_eq e d) (same_shapes bs cs) h in
+          and_yields (Conv E T r k) (Conv E T c t × ConvArms E T bs cs) (Conv E T (Match e r c bs) (Match d k t cs)) (again (Equal, r, k)) (again (Equal, c, t) and same_bodies again bs cs)
+          (λ f g. subst (λ i. Conv E T (Match e r c bs) (Match i k t cs)) (eqb-true e d n.0) (matches f g.0 g.1)) (asked Equal r k p.0 q.0)
+          (and_yields (Conv E T c t) (ConvArms E T bs cs) (Conv E T c t × ConvArms E T bs cs) (again (Equal, c, t)) (same_bodies again bs cs) (λ f g. (f, g)) (asked Equal c t p.1 q.1) (bodies_yield bs cs p.2 q.2 n.1)))
           (gives (Same (Match e r c bs) (Match d k t cs)) false (λ e. untrue e))
       spine_yields (App f a) (App g b) p q = and_yields (Conv E T f g) (Conv E T a b) (Conv E T (App f a) (App g b)) (same_spine again f g) (again (Equal, a, b)) app_conv (spine_yields f g p.0 q.0) (asked Equal a b p.1 q.1)
       spine_yields t u p q = gives (Same t u) false (λ e. untrue e)
@@ -131,7 +128,7 @@ module _ (E : Environment) (T : Store) where
       heads_yield m (Lam x a b) (Lam y c d) p q = and_yields (Conv E T a c) (Conv E T b d) (Fit m (Lam x a b) (Lam y c d)) (again (Equal, a, c)) (again (Equal, b, d)) (λ f g. as_fit m (lams f g)) (asked Equal a c p.0 q.0) (asked Equal b d p.1 q.1)
       heads_yield m t u p q = so_yields (Same t u) (IfYes (Fit m t u)) (same_spine again t u) (λ b f e. as_fit m (f e)) (spine_yields t u p q)
 
-module _ (E : Environment) (S T : Store) (P : ℕ → Type 0) (env : PlainEntries E)
+module _ (E : Environment) (S T : Store) (P : ℕ → Type 0) (env : BodyMetas E P)
     (agree : (n : ℕ) → P n → S.at n ≡ T.at n) (held : (n : ℕ) (d : Declared) → P n → S.at n ≡ Some d → AllMetasHeld P d) where
   alike_fit : (t u : Tree) → is_alike t u ≡ true → Conv E T t u
   unfolding is_alike
@@ -142,8 +139,8 @@ module _ (E : Environment) (S T : Store) (P : ℕ → Type 0) (env : PlainEntrie
       if_yields (IfYes (Fit E T m t u)) (is_alike t u) (give true) (whd E S t >>= (λ t'. whd E S u >>= (λ u'. same_heads again (E.below) m t' u')))
       (λ h. gives (IfYes (Fit E T m t u)) true (λ e. as_fit E T m (alike_fit t u h)))
       (then_yields (Reached E S T P env agree held t) (IfYes (Fit E T m t u)) (whd E S t) _ (whd_yields E S T P env agree held t p) (λ t' f.
-       then_yields (Reached E S T P env agree held u) (IfYes (Fit E T m t u)) (whd E S u) _ (whd_yields E S T P env agree held u q) (λ u' g.
-       so_yields (IfYes (Fit E T m t' u')) (IfYes (Fit E T m t u)) (same_heads again (E.below) m t' u') (λ b h e. fit_via E T m (reduces_conv f.0) (h e) (back (reduces_conv g.0))) (heads_yield E T P again ih m t' u' f.1 g.1))))
+      then_yields (Reached E S T P env agree held u) (IfYes (Fit E T m t u)) (whd E S u) _ (whd_yields E S T P env agree held u q) (λ u' g.
+      so_yields (IfYes (Fit E T m t' u')) (IfYes (Fit E T m t u)) (same_heads again (E.below) m t' u') (λ b h e. fit_via E T m (reduces_conv f.0) (h e) (back (reduces_conv g.0))) (heads_yield E T P again ih m t' u' f.1 g.1))))
 
   compared_yields : (q : Question) → Yields (compared E S q) (Told E T P q)
   unfolding compared

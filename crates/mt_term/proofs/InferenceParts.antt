@@ -1,26 +1,26 @@
 -- What the parts of inference that have no charges give.
 use mathlib.Core.Path.{fun_ext}
-use Rattle.std.specs.Prelude.{ℕ, zero, suc, ◌≡◌, ◌+◌, refl, max, List, [], ◌∷◌, length, nat_eq, if◌then◌else◌, Bool, true, false, ◌&&◌, Option, Some, None, slice_get}
-use Rattle.std.proofs.Common.{sym, ◌∙◌, ap, subst, subst₂, eqb-true, arith}
-use Rattle.mt_term.specs.Trees.{Bytes, Tree, Trees, Arms, Var, Sort, Prod, Lam, App, Const, Ind, Con, Match, Meta, End, Item, NoArm, Arm}
+use Rattle.std.specs.Prelude.{ℕ, zero, suc, ◌≡◌, refl, List, [], ◌∷◌, nat_eq, if◌then◌else◌, Bool, true, false, Option, Some, None, slice_get}
+use Rattle.std.proofs.Common.{sym, ◌∙◌, ap, subst, eqb-true, arith}
+use Rattle.mt_term.specs.Trees.{Bytes, Tree, Trees, Var, Sort, Prod, Lam, App, Const, Ind, Con, Match, Meta, End, Item}
 use Rattle.mt_term.specs.Substitution.{ren, ren_all, raise, lift, sub, one, apps, all_but, join, count}
 use Rattle.mt_term.specs.declared.universes.Sort.{Sort as AnySort}
 use Rattle.mt_term.specs.declared.universes.Sort.TheVariants.{Prop, Typ}
 use Rattle.mt_term.specs.declared.universes.UnivExpr.{UnivExpr}
-use Rattle.mt_term.specs.Universes.{Valuation, value, maximum, raised, raised_sort, sort_above, sort_of_product}
+use Rattle.mt_term.specs.Universes.{raised, raised_sort, sort_above, sort_of_product}
 use Rattle.mt_term.specs.Declarations.{Hypothesis, Constructor, Declaration, Axiom, Definition, Inductive, Recursive, Environment}
 use Rattle.mt_term.specs.Spines.{as_ind, bullet, bullets, at_args, with_first, first_of}
 use Rattle.mt_term.specs.Stores.{Store, AllMetas, AllMetasIn, AllMetasOf}
 use Rattle.mt_term.specs.Contraction.{products, beta, in_fun}
 use Rattle.mt_term.specs.Typing.{Look, here, there, IsContext, IsType, Has, ProductSort, to_prop, from_prop, of_types, Raised, Instantiated, at_none, at_more, Allowed, Holds, c_cons, t_prop, t_typ, k_dom, k_cod}
-use Rattle.mt_term.specs.Inference.{Family, lifted_type, type_at, context_types, family_at, at_some_args, family_of, family_on, as_family, only, may_eliminate, branches_fit, branch_context, return_at, branch_type}
+use Rattle.mt_term.specs.Inference.{Family, lifted_type, type_at, context_types, family_at, at_some_args, family_of, family_on, as_family, only, may_eliminate, branch_context, return_at, branch_type}
 use Rattle.mt_term.proofs.Agree.{ren_metas}
 use Rattle.mt_term.proofs.Subst.{ren_ren}
-use Rattle.mt_term.proofs.Steps.{Reduces, done, more, step, within, also}
-use Rattle.mt_term.proofs.Matching.{snoc, apps_snoc, join_end, apps_join, all_but_join, ConResult, r_end, r_more, BranchGoal, goal_here, goal_under, count_join}
-use Rattle.mt_term.proofs.MetaLaws.{one_metas, head_metas, all_but_metas, join_metas, bullets_metas}
+use Rattle.mt_term.proofs.Steps.{Reduces, done, step, within, also}
+use Rattle.mt_term.proofs.Matching.{apps_snoc, join_end, all_but_join, ConResult, r_end, r_more, BranchGoal, goal_here, goal_under}
+use Rattle.mt_term.proofs.MetaLaws.{head_metas, all_but_metas, join_metas, bullets_metas}
 use Rattle.mt_term.proofs.UniverseFormLaws.{value_of_maximum, value_of_raised}
-use Rattle.mt_term.proofs.Yields.{some_is, nothing, untrue}
+use Rattle.mt_term.proofs.Yields.{some_is, nothing}
 
 -- a variable's type
 raise_more : (k : ℕ) (t : Tree) → ren suc (lift k zero t) ≡ lift (suc k) zero t
@@ -210,10 +210,11 @@ module _ (E : Environment) (T : Store) where
   branch_goal e q p (r_end {ps = ps} us nq) np Γ r c [] v h =
       let t = apps (apps (Ind e) ps) us in
       let a : bullets r (join (all_but p (join ps us)) (Item c End)) ≡ v = some_is (ap (return_at p r c) (sym (as_ind_own e ps us)) ∙ sym (branch_nil p r c t) ∙ h) in
-      let b : bullets r (join us (Item c End)) ≡ v = ap (λ is. bullets r (join is (Item c End))) (sym (all_but_join p ps us np)) ∙ a in
-      ( App (apps r us) c
-      , subst (λ Δ. BranchGoal e q ps (context_types Γ) r c t [] (context_types Δ) (App (apps r us) c)) (sym (context_nil Γ t)) (goal_here us nq)
-      , subst (Reduces E T (App (apps r us) c)) b (last_reduces r us c) )
+      let b : bullets r (join us (Item c End)) ≡ v = ap (λ is. bullets r (join is (Item c End))) (sym (all_but_join p ps us np)) ∙ a in (
+        App (apps r us) c,
+        subst (λ Δ. BranchGoal e q ps (context_types Γ) r c t [] (context_types Δ) (App (apps r us) c)) (sym (context_nil Γ t)) (goal_here us nq),
+        subst (Reduces E T (App (apps r us) c)) b (last_reduces r us c),
+      )
   branch_goal e q p (r_end {ps = ps} us nq) np Γ r c (x ∷ xs) v h = nothing (sym (branch_none p r c (apps (apps (Ind e) ps) us) x xs (spine_apps (apps (Ind e) ps) us (spine_apps (Ind e) ps tt))) ∙ h)
   branch_goal e q p (r_more z) np Γ r c [] v h = nothing h
   branch_goal e q p (r_more {ps = ps} {y = y} {A = A} {B = B} z) np Γ r c (x ∷ xs) v h =

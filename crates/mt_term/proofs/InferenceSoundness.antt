@@ -1,18 +1,18 @@
 -- The type that inference answers is a type of the term: by derivations over a store that agrees with its own on a set of metavariables, which stand in the context and the term.
-use Rattle.std.specs.Prelude.{ℕ, zero, suc, ◌≡◌, ◌+◌, refl, List, [], ◌∷◌, length, nat_eq, Bool, true, false, ◌&&◌, Option, Some, None, slice_get}
-use Rattle.std.proofs.Common.{sym, ◌∙◌, ap, subst, subst₂, eqb-true, arith}
+use Rattle.std.specs.Prelude.{ℕ, zero, suc, ◌≡◌, ◌+◌, refl, List, [], ◌∷◌, length, nat_eq, Bool, true, false, Option, Some, None, slice_get}
+use Rattle.std.proofs.Common.{sym, ◌∙◌, ap, subst, arith}
 use Rattle.mt_term.specs.Trees.{Bytes, Tree, Trees, Arms, Var, Sort, Prod, Lam, App, Const, Ind, Con, Match, Meta, End, Item, NoArm, Arm}
-use Rattle.mt_term.specs.Substitution.{ren, sub, one, then_as, fill, beyond, under, apps, all_but, join, count}
+use Rattle.mt_term.specs.Substitution.{ren, sub, one, then_as, fill, beyond, under, apps, join, count}
 use Rattle.mt_term.specs.declared.universes.Sort.{Sort as AnySort}
 use Rattle.mt_term.specs.declared.modes.Mode.{Mode}
 use Rattle.mt_term.specs.declared.modes.Mode.TheVariants.{Equal, AtMost as Below}
 use Rattle.mt_term.specs.Universes.{sort_above, sort_of_product}
 use Rattle.mt_term.specs.Declarations.{Hypothesis, Constructor, Declaration, Axiom, Definition, Inductive, Recursive, Environment, constructor_at, declared_type}
-use Rattle.mt_term.specs.Charges.{Charged, give, ◌>>=◌, charge}
+use Rattle.mt_term.specs.Charges.{Charged, ◌>>=◌}
 use Rattle.mt_term.specs.Spines.{bullets, at_args}
 use Rattle.mt_term.specs.Stores.{Declared, Store, Owned, AllMetas, AllMetasIn, AllMetasArms, AllMetasOf, AllMetasHeld}
 use Rattle.mt_term.specs.Contraction.{products, ConstructorOf}
-use Rattle.mt_term.specs.Conversion.{Conv, same, back, chain, prods, AtMost, conv, on}
+use Rattle.mt_term.specs.Conversion.{Conv, back, chain, prods, AtMost, conv, on}
 use Rattle.mt_term.specs.Typing.{Look, here, there, IsContext, IsType, Has, Fitting, Body, Instantiated, at_none, MotiveType, m_end, m_more, Allowed, Holds, c_cons, t_var, t_prod, t_lam, t_app, t_const, t_ind, t_con, t_match, f_none, f_arm, t_meta, t_sub, k_sort, k_of, k_type_reduct, k_dom}
 use Rattle.mt_term.specs.SoundEnvironment.{SoundEnvironment}
 use Rattle.mt_term.specs.WeakHead.{whd}
@@ -20,16 +20,16 @@ use Rattle.mt_term.specs.Comparison.{convert}
 use Rattle.mt_term.specs.Inference.{Product, Family, a_sort, a_product, found, eliminable, checked, in_range, agreed, type_at, context_types, constant_type, inductive_type, constructor_type, oldest, only, as_family, may_eliminate, branches_fit, branch_context, branch_type, sorted, agrees, eliminated, elim_by, inferred, inferred_terms, inferred_arms, infer}
 use Rattle.mt_term.proofs.Agree.{ren_metas}
 use Rattle.mt_term.proofs.Images.{under_metas}
-use Rattle.mt_term.proofs.Subst.{tr_ren, meta_steady}
+use Rattle.mt_term.proofs.Subst.{tr_ren}
 use Rattle.mt_term.proofs.Steps.{Reduces, done, more, ClosedEnv}
 use Rattle.mt_term.proofs.Known.{Inv, known}
 use Rattle.mt_term.proofs.Laws.{substitution}
 use Rattle.mt_term.proofs.Plain.{PlainEntries}
 use Rattle.mt_term.proofs.EnvironmentLaws.{plain_entries, closed_environment, inductive_facts, arity_at, constructor_result, constructor_prefix}
-use Rattle.mt_term.proofs.Matching.{join_end, apps_join, all_but_join, count_join, ConResult, SamePrefix, BranchGoal, motive_type, spine_has, body_holds, con_has}
-use Rattle.mt_term.proofs.MetaLaws.{plain_metas, then_as_metas, fill_var_metas, sub_metas, one_metas, apps_metas, head_metas, all_but_metas, join_metas, unjoin_metas, bullets_metas, inst_metas}
+use Rattle.mt_term.proofs.Matching.{apps_join, ConResult, SamePrefix, motive_type, spine_has, body_holds, con_has}
+use Rattle.mt_term.proofs.MetaLaws.{plain_metas, then_as_metas, sub_metas, one_metas, apps_metas, head_metas, join_metas, unjoin_metas, bullets_metas, inst_metas}
 use Rattle.mt_term.proofs.Yields.{Yields, gives, refuses, charges, then_yields, so_yields, some_is, nothing, untrue}
-use Rattle.mt_term.proofs.WeakHeadSoundness.{Reached, whd_yields, constructor_of}
+use Rattle.mt_term.proofs.WeakHeadSoundness.{plain_bodies, whd_yields, constructor_of}
 use Rattle.mt_term.proofs.ComparisonSoundness.{IfYes, Fit, convert_yields, reduces_conv}
 use Rattle.mt_term.proofs.AlikeLaws.{both}
 use Rattle.mt_term.proofs.InferenceParts.{type_look, look_metas, above_has, product_sort, allowed_is, at_args_is, FamilyIs, family_is, only_is, last_reduces, branch_goal, branch_context_holds, branch_context_metas, branch_type_metas, After, from_first, and_next, after_get}
@@ -89,10 +89,10 @@ module _ (E : Environment) (sound : SoundEnvironment E) (w : Bool) (S T : Store)
   Head t u = Reduces E T t u × AllMetas P u
 
   head_yields : (t : Tree) → AllMetas P t → Yields (whd E S t) (Head t)
-  head_yields t p = whd_yields E S T P env agree held t p
+  head_yields t p = whd_yields E S T P (plain_bodies E P env) agree held t p
 
-  fit_yields : (Γ : List Hypothesis) (m : Mode) (t u : Tree) → AllMetas P t → AllMetas P u → Yields (agrees E S Γ m t u) (λ z. Fit E T m t u)
-  fit_yields Γ m t u p q = then_yields (IfYes (Fit E T m t u)) (λ z. Fit E T m t u) (convert E S m t u) (agreed Γ t u) (convert_yields E S T P env agree held m t u p q) (λ b h. agreed_yields (Fit E T m t u) Γ t u b h)
+  pub fit_yields : (Γ : List Hypothesis) (m : Mode) (t u : Tree) → AllMetas P t → AllMetas P u → Yields (agrees E S Γ m t u) (λ z. Fit E T m t u)
+  fit_yields Γ m t u p q = then_yields (IfYes (Fit E T m t u)) (λ z. Fit E T m t u) (convert E S m t u) (agreed Γ t u) (convert_yields E S T P (plain_bodies E P env) agree held m t u p q) (λ b h. agreed_yields (Fit E T m t u) Γ t u b h)
 
   type_steps : {Γ : List Tree} {t u : Tree} → Reduces E T t u → Holds E w T Γ (IsType t) → Holds E w T Γ (IsType u)
   type_steps done h = h
@@ -105,7 +105,7 @@ module _ (E : Environment) (sound : SoundEnvironment E) (w : Bool) (S T : Store)
   type_head_yields : (Γ : List Hypothesis) (t : Tree) (m : Charged Tree) → Yields m (Is Γ t) → Yields (m >>= whd E S) (Is Γ t)
   type_head_yields Γ t m y = then_yields (Is Γ t) (Is Γ t) m (whd E S) y (λ u i. so_yields (Head u) (Is Γ t) (whd E S u) (λ v h. (has_steps h.0 i.0, h.1)) (head_yields u i.1))
 
-  sorted_yields : (Γ : List Hypothesis) (t : Tree) (m : Charged Tree) → Yields m (Is Γ t) → Yields (sorted E S m) (λ s. Holds E w T (context_types Γ) (Has t (Sort s)))
+  pub sorted_yields : (Γ : List Hypothesis) (t : Tree) (m : Charged Tree) → Yields m (Is Γ t) → Yields (sorted E S m) (λ s. Holds E w T (context_types Γ) (Has t (Sort s)))
   sorted_yields Γ t m y =
       then_yields (Is Γ t) (λ s. Holds E w T (context_types Γ) (Has t (Sort s))) (m >>= whd E S) a_sort (type_head_yields Γ t m y)
       (λ u i. so_yields (λ s. u ≡ Sort s) (λ s. Holds E w T (context_types Γ) (Has t (Sort s))) (a_sort u) (λ s e. subst (λ v. Holds E w T (context_types Γ) (Has t v)) e i.0) (sort_yields u))
@@ -290,11 +290,11 @@ module _ (E : Environment) (sound : SoundEnvironment E) (w : Bool) (S T : Store)
         let head_of : AllMetas P (apps (Ind f.number) f.params) = apps_metas P (Ind f.number) f.params tt args.0 in
         then_yields (λ s. (M : Tree) × (r' : AnySort) × MotiveType s f.arity (apps (Ind f.number) f.params) r' M × Holds E w T (context_types Γ) (Has r M) × Allowed r' s f.large) Q (elim_by E S Γ f (inferred E S Γ r)) _
         (then_yields (Is Γ r) (λ s. (M : Tree) × (r' : AnySort) × MotiveType s f.arity (apps (Ind f.number) f.params) r' M × Holds E w T (context_types Γ) (Has r M) × Allowed r' s f.large) (inferred E S Γ r) _ (inferred_yields Γ r c g p.0) (λ t hr.
-          so_yields (Eliminates f.large f.arity (apps (Ind f.number) f.params) t) (λ s. (M : Tree) × (r' : AnySort) × MotiveType s f.arity (apps (Ind f.number) f.params) r' M × Holds E w T (context_types Γ) (Has r M) × Allowed r' s f.large) (eliminated E S Γ f.large f.arity (apps (Ind f.number) f.params) t)
-          (λ s el.
-            let hs = spine_has E w closed T own f.number q.name q.co f.large q.p q.ty f.constructors q.entry (context_types Γ) End f.params f.indices q.at at_none q.full (k_of hd') (t_ind c q.entry) in
-            (el.1, el.0, el.2, t_sub hr.0 (conv el.3) (motive_type E w closed T own (context_types Γ) el.2 c hs), el.4))
-          (eliminated_yields Γ f.large f.arity (apps (Ind f.number) f.params) t arity_metas head_of hr.1)))
+        so_yields (Eliminates f.large f.arity (apps (Ind f.number) f.params) t) (λ s. (M : Tree) × (r' : AnySort) × MotiveType s f.arity (apps (Ind f.number) f.params) r' M × Holds E w T (context_types Γ) (Has r M) × Allowed r' s f.large) (eliminated E S Γ f.large f.arity (apps (Ind f.number) f.params) t)
+        (λ s el.
+        let hs = spine_has E w closed T own f.number q.name q.co f.large q.p q.ty f.constructors q.entry (context_types Γ) End f.params f.indices q.at at_none q.full (k_of hd') (t_ind c q.entry) in
+        (el.1, el.0, el.2, t_sub hr.0 (conv el.3) (motive_type E w closed T own (context_types Γ) el.2 c hs), el.4))
+        (eliminated_yields Γ f.large f.arity (apps (Ind f.number) f.params) t arity_metas head_of hr.1)))
         (λ s el.
         let m : Matched Γ f r = record { t = u; is = q; context = c; ty = k_of hd'; r = el.1; s = s; M = el.0; motive = el.2; return = el.3; context_metas = g; params_metas = args.0; return_metas = p.0 } in
         then_yields (λ z. branches_fit (count f.params) f.constructors bs ≡ true) Q (checked (branches_fit (count f.params) f.constructors bs)) _ (checked_yields (branches_fit (count f.params) f.constructors bs)) (λ z n.

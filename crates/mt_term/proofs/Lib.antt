@@ -45,3 +45,4 @@ pub mod InstanceLaws
 pub mod InferenceParts
 pub mod InferenceSoundness
 pub mod StoreSteps
+pub mod ReductionTheorems

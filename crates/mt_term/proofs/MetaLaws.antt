@@ -1,14 +1,12 @@
 -- Which metavariables stand in terms that are put together.
-use Rattle.std.specs.Prelude.{◌≡◌, ℕ, zero, suc, List, [], ◌∷◌, Option, Some, None}
-use Rattle.std.proofs.Common.{subst}
-use Rattle.mt_term.specs.Trees.{Bytes, Tree, Trees, Arms, Var, Sort, Prod, Lam, App, Const, Ind, Con, Match, Meta, End, Item, NoArm, Arm}
-use Rattle.mt_term.specs.Substitution.{then_as, sub, one, fill, beyond, apps, all_but, join}
+use Rattle.std.specs.Prelude.{ℕ, zero, suc, List, [], ◌∷◌}
+use Rattle.mt_term.specs.Trees.{Tree, Trees, Arms, Var, Sort, Prod, Lam, App, Const, Ind, Con, Match, Meta, End, Item, NoArm, Arm}
+use Rattle.mt_term.specs.Substitution.{then_as, sub, one, fill, apps, all_but, join}
 use Rattle.mt_term.specs.Spines.{bullet, bullets}
 use Rattle.mt_term.specs.Stores.{AllMetas, AllMetasIn, AllMetasArms, AllMetasOf}
-use Rattle.mt_term.specs.Scopes.{deep, Plain, PlainAll, PlainArms, PlainContext}
+use Rattle.mt_term.specs.Scopes.{deep, Plain, PlainArms, PlainContext}
 use Rattle.mt_term.specs.Typing.{Instantiated, at_none, at_more}
-use Rattle.mt_term.specs.Contraction.{ItemAt, item_here, item_later}
-use Rattle.mt_term.proofs.Agree.{tr_metas, ren_metas}
+use Rattle.mt_term.proofs.Agree.{tr_metas}
 use Rattle.std.specs.Prelude.{length}
 
 -- a term without metavariables

@@ -1,20 +1,19 @@
 -- What the weak head answers is reached by contractions.
-use Rattle.std.specs.Prelude.{ℕ, zero, suc, ◌≡◌, ◌+◌, refl, List, [], ◌∷◌, length, nat_eq, if◌then◌else◌, Bool, true, false, Option, Some, None, is_some, slice_get}
-use Rattle.std.proofs.Common.{sym, ◌∙◌, ap, subst, subst₂, eqb-true}
+use Rattle.std.specs.Prelude.{ℕ, zero, suc, ◌≡◌, refl, List, [], ◌∷◌, length, nat_eq, if◌then◌else◌, Bool, true, false, Option, Some, None, is_some, slice_get}
+use Rattle.std.proofs.Common.{sym, ◌∙◌, ap, subst, eqb-true}
 use Rattle.mt_term.specs.Trees.{Bytes, Tree, Trees, Arms, Var, Sort, Prod, Lam, App, Const, Ind, Con, Match, Meta, End, Item, NoArm, Arm}
 use Rattle.mt_term.specs.Substitution.{sub, one, fill, under, apps, all_but, count}
 use Rattle.mt_term.specs.Declarations.{Constructor, Declaration, Axiom, Definition, Inductive, Recursive, Environment, constructor_in, constructor_at}
-use Rattle.mt_term.specs.Charges.{Charged, Done, give, ◌>>=◌, charge}
+use Rattle.mt_term.specs.Charges.{Charged, give, ◌>>=◌}
 use Rattle.mt_term.specs.Spines.{as_con, as_const, on_args, with_first}
 use Rattle.mt_term.specs.Stores.{Declared, Store, AllMetas, AllMetasIn, AllMetasArms, AllMetasHeld}
-use Rattle.mt_term.specs.Contraction.{products, ArmAt, arm_here, arm_later, ItemAt, item_here, item_later, ConstructorOf, Contracts, beta as by_beta, delta, assigned, iota, unfold_rec, unfold_co, in_fun, in_arg, in_matched}
-use Rattle.mt_term.specs.Knot.{fixed}
-use Rattle.mt_term.specs.WeakHead.{Arg, plain, takes, if_full, full_con, params_of, branch_at, branch_under, taken, corecursive_body, unrolled, branch_or_match, matched, beta, body_of, body_under, opened, on_opened, unfolded, follow, look_by, whd_by, whd}
-use Rattle.mt_term.proofs.Steps.{Reduces, done, more, step, within, also}
+use Rattle.mt_term.specs.Contraction.{products, ArmAt, arm_here, arm_later, ItemAt, item_here, item_later, ConstructorOf, Contracts, beta as by_beta, delta, assigned, iota, unfold_rec, unfold_co, in_dom, in_cod, in_type, in_body, in_fun, in_arg, in_return, in_matched, in_terms, in_first}
+use Rattle.mt_term.specs.WeakHead.{Arg, plain, takes, if_full, full_con, params_of, branch_at, branch_under, taken, corecursive_body, unrolled, branch_or_match, matched, body_of, body_under, opened, on_opened, unfolded, follow, look_by, whd_by, whd, look, paid, step as one_step, follow_or, parts_by, all_by, arms_by, normal_by, normal}
+use Rattle.mt_term.proofs.Steps.{Reduces, done, step, within, also, ReducesIn, done_all, more_all, ReducesArms, done_arms, more_arms, within_item, within_all, within_rest, within_arm, within_later, within_match}
 use Rattle.mt_term.proofs.Images.{under_metas}
 use Rattle.mt_term.proofs.Plain.{PlainEntries}
-use Rattle.mt_term.proofs.MetaLaws.{plain_metas, one_metas, sub_metas, fill_var_metas, apps_metas, head_metas, all_but_metas}
-use Rattle.mt_term.proofs.Yields.{Yields, gives, charges, then_yields, so_yields, fixed_yields, some_is, nothing, untrue}
+use Rattle.mt_term.proofs.MetaLaws.{plain_metas, any_metas, one_metas, sub_metas, fill_var_metas, apps_metas, head_metas, all_but_metas}
+use Rattle.mt_term.proofs.Yields.{Yields, gives, charges, then_yields, so_yields, fixed_yields, some_is, nothing}
 
 -- a term on arguments that is a constructor, or a constant, on arguments
 pub as_con_is : (t : Tree) (s : Trees) (k : ℕ × ℕ × Trees) → as_con t s ≡ Some k → apps t s ≡ apps (Con k.0 k.1) k.2
@@ -70,7 +69,26 @@ full_is E d k h = go (as_con d End) refl h
     go None a g = nothing g
     go (Some j) a g = last j a (constructor_at E.entries j.0 j.1) refl g
 
-module _ (E : Environment) (S T : Store) (P : ℕ → Type 0) (env : PlainEntries E)
+also_all : {E : Environment} {T : Store} {s t u : Trees} → ReducesIn E T s t → ReducesIn E T t u → ReducesIn E T s u
+also_all done_all q = q
+also_all (more_all c p) q = more_all c (also_all p q)
+
+also_arms : {E : Environment} {T : Store} {s t u : Arms} → ReducesArms E T s t → ReducesArms E T t u → ReducesArms E T s u
+also_arms done_arms q = q
+also_arms (more_arms c p) q = more_arms c (also_arms p q)
+
+-- the bodies of an environment have metavariables that are P
+pub record BodyMetas (E : Environment) (P : ℕ → Type 0) : Type 0 where
+  pub bodies : (c n r : ℕ) (x : Bytes) (co made : Bool) (t b : Tree) → slice_get (E.entries) c ≡ Some (Recursive x co n r t b made) → AllMetas P b
+  pub values : (c : ℕ) (x : Bytes) (t b : Tree) → slice_get (E.entries) c ≡ Some (Definition x t b) → AllMetas P b
+
+pub plain_bodies : (E : Environment) (P : ℕ → Type 0) → PlainEntries E → BodyMetas E P
+plain_bodies E P env = record { bodies = λ c n r x co made t b h. plain_metas P zero b (env.bodies c n r x co made t b h); values = λ c x t b h. plain_metas P zero b (env.values c x t b h) }
+
+pub any_bodies : (E : Environment) (P : ℕ → Type 0) → ((n : ℕ) → P n) → BodyMetas E P
+any_bodies E P all = record { bodies = λ c n r x co made t b h. any_metas P all b; values = λ c x t b h. any_metas P all b }
+
+module _ (E : Environment) (S T : Store) (P : ℕ → Type 0) (env : BodyMetas E P)
     (agree : (n : ℕ) → P n → S.at n ≡ T.at n) (held : (n : ℕ) (d : Declared) → P n → S.at n ≡ Some d → AllMetasHeld P d) where
   -- what is reached by contractions, in the second store, and has metavariables that are P
   abbrev pub Reached : Tree → Tree → Type 0
@@ -129,11 +147,11 @@ module _ (E : Environment) (S T : Store) (P : ℕ → Type 0) (env : PlainEntrie
   recursive_step : (c : ℕ) (vs : List Arg) (x : Bytes) (n r : ℕ) (t b : Tree) (made : Bool) → slice_get E.entries c ≡ Some (Recursive x false n r t b made) → (o : Option Trees) → OpeningOr r vs o → Step (apps (Const c) (plain vs)) (on_opened b o)
   recursive_step c vs x n r t b made h None f = tt
   recursive_step c vs x n r t b made h (Some s) f =
-      (also (f.steps (Const c)) (step (unfold_rec c f.k.2 h f.at f.con f.all)), apps_metas P b s (plain_metas P zero b (env.bodies c n r x false made t b h)) f.metas)
+      (also (f.steps (Const c)) (step (unfold_rec c f.k.2 h f.at f.con f.all)), apps_metas P b s ((env.bodies c n r x false made t b h)) f.metas)
 
   unfolded_yields : (c : ℕ) (vs : List Arg) → GoodArgs vs → (o : Option Declaration) → slice_get E.entries c ≡ o → Yields (unfolded E.entries o vs) (Step (apps (Const c) (plain vs)))
   unfolded_yields c vs g (Some (Definition x t b)) h =
-      gives (Step (apps (Const c) (plain vs))) _ (within_apps (Const c) b (plain vs) (step (delta h)), apps_metas P b (plain vs) (plain_metas P zero b (env.values c x t b h)) (plain_args g))
+      gives (Step (apps (Const c) (plain vs))) _ (within_apps (Const c) b (plain vs) (step (delta h)), apps_metas P b (plain vs) ((env.values c x t b h)) (plain_args g))
   unfolded_yields c vs g (Some (Recursive x false n r t b made)) h =
       then_yields (OpeningOr r vs) (Step (apps (Const c) (plain vs))) (opened E.entries r vs) _ (opened_yields r vs g) (λ o f. gives (Step (apps (Const c) (plain vs))) _ (recursive_step c vs x n r t b made h o f))
   unfolded_yields c vs g (Some (Recursive x true n r t b made)) h = gives (Step (apps (Const c) (plain vs))) None tt
@@ -153,9 +171,10 @@ module _ (E : Environment) (S T : Store) (P : ℕ → Type 0) (env : PlainEntrie
           let arm = branch_at_is bs k.1 b a in
           let c : Contracts E T (Match e r (apps (Con e k.1) k.2) bs) (sub (fill (all_but (o.params) k.2) Var) b.1) = iota k.2 o w.all arm (subst (λ p. length b.0 ≡ count (all_but p k.2)) q len) in
           let c' : Contracts E T (Match e r d bs) (sub (fill (all_but (o.params) k.2) Var) b.1) = subst (λ v. Contracts E T (Match e r v bs) (sub (fill (all_but (o.params) k.2) Var) b.1)) (sym (w.is ∙ ap (λ j. apps (Con j k.1) k.2) i)) c in
-          let args : AllMetasIn P k.2 = (head_metas P (Con k.0 k.1) k.2 (subst (AllMetas P) w.is pd)).1 in
-          ( step (subst (λ p. Contracts E T (Match e r d bs) (sub (fill (all_but p k.2) Var) b.1)) (sym q) c')
-          , sub_metas P (fill (all_but (params_of (slice_get E.entries e)) k.2) Var) (fill_var_metas P (all_but (params_of (slice_get E.entries e)) k.2) Var (all_but_metas P (params_of (slice_get E.entries e)) k.2 args) (λ i. tt)) b.1 (arm_metas P arm pb) )
+          let args : AllMetasIn P k.2 = (head_metas P (Con k.0 k.1) k.2 (subst (AllMetas P) w.is pd)).1 in (
+            step (subst (λ p. Contracts E T (Match e r d bs) (sub (fill (all_but p k.2) Var) b.1)) (sym q) c'),
+            sub_metas P (fill (all_but (params_of (slice_get E.entries e)) k.2) Var) (fill_var_metas P (all_but (params_of (slice_get E.entries e)) k.2) Var (all_but_metas P (params_of (slice_get E.entries e)) k.2 args) (λ i. tt)) b.1 (arm_metas P arm pb),
+          )
 
       go : Full E d k → (i : Bool) → nat_eq k.0 e ≡ i → (b : Option (List Bytes × Tree)) → branch_at bs k.1 ≡ b → (if i then branch_under b (all_but (params_of (slice_get E.entries e)) k.2) else None) ≡ Some t → Reached (Match e r d bs) t
       go w true i (Some b) a g =
@@ -177,7 +196,7 @@ module _ (E : Environment) (S T : Store) (P : ℕ → Type 0) (env : PlainEntrie
       go : (o : Option Declaration) → slice_get E.entries c.0 ≡ o → on_args (corecursive_body o) c.1 ≡ Some t → Reached (Match e r d bs) (Match e r t bs)
       go (Some (Recursive x true n p ty b made)) g i =
           let s : Contracts E T (Match e r d bs) (Match e r (apps b c.1) bs) = subst (λ v. Contracts E T (Match e r v bs) (Match e r (apps b c.1) bs)) (sym is) (unfold_co c.0 c.1 g) in
-          subst (λ v. Reached (Match e r d bs) (Match e r v bs)) (some_is i) (step s, (pr, apps_metas P b c.1 (plain_metas P zero b (env.bodies c.0 n p x true made ty b g)) args, pb))
+          subst (λ v. Reached (Match e r d bs) (Match e r v bs)) (some_is i) (step s, (pr, apps_metas P b c.1 ((env.bodies c.0 n p x true made ty b g)) args, pb))
       go (Some (Recursive x false n p ty b made)) g i = nothing i
       go (Some (Axiom x ty)) g i = nothing i
       go (Some (Definition x ty b)) g i = nothing i
@@ -206,9 +225,10 @@ module _ (E : Environment) (S T : Store) (P : ℕ → Type 0) (env : PlainEntrie
     where
       go : (b : Option Tree) → d.body ≡ b → Step (apps (Meta n t) s) (on_args (body_under b t) s)
       go None f = tt
-      go (Some b) f =
-          ( within_apps (Meta n t) (under t b) s (step (assigned (sym (agree n p) ∙ h) f))
-          , apps_metas P (under t b) s (under_metas P t b pt ((held n d p h).body b f)) ps )
+      go (Some b) f = (
+        within_apps (Meta n t) (under t b) s (step (assigned (sym (agree n p) ∙ h) f)),
+        apps_metas P (under t b) s (under_metas P t b pt ((held n d p h).body b f)) ps,
+      )
 
   module _ (again : Tree → Charged Tree) (ih : (t : Tree) → Yields (again t) (λ u. AllMetas P t → Reached t u)) where
     follow_yields : (t : Tree) → AllMetas P t → (o : Option Tree) → Step t o → Yields (follow again t o) (Reached t)
@@ -242,3 +262,83 @@ module _ (E : Environment) (S T : Store) (P : ℕ → Type 0) (env : PlainEntrie
   unfolding whd
   whd_yields t p n a r e =
       fixed_yields Tree (λ t. Tree) (whd_by E S) (λ t u. AllMetas P t → Reached t u) (λ again ih t n a r e p. whd_by_yields again ih t p n a r e) t n a r e p
+
+  -- one step, and the normal form
+  look_none : (t : Tree) → AllMetas P t → Yields (look E S t End) (Step t)
+  unfolding look
+  look_none t p = look_yields (whd E S) (λ u n a r e q. whd_yields u q n a r e) t [] p no_args
+
+  paid_yields : (t : Tree) (o : Option Tree) → Step t o → Yields (paid o) (Step t)
+  paid_yields t None h = gives (Step t) None tt
+  paid_yields t (Some u) h = charges (Step t) (give (Some u)) (gives (Step t) (Some u) h)
+
+  pub step_yields : (t : Tree) → AllMetas P t → Yields (one_step E S t) (Step t)
+  unfolding one_step
+  step_yields t p = then_yields (Step t) (Step t) (look E S t End) paid (look_none t p) (paid_yields t)
+
+  abbrev ReachedAll : Trees → Trees → Type 0
+  ReachedAll s r = ReducesIn E T s r × AllMetasIn P r
+
+  abbrev ReachedArms : Arms → Arms → Type 0
+  ReachedArms bs cs = ReducesArms E T bs cs × AllMetasArms P cs
+
+  module _ (again : Tree → Charged Tree) (ih : (t : Tree) → Yields (again t) (λ u. AllMetas P t → Reached t u)) where
+    part_yields : (t : Tree) → AllMetas P t → (m : Charged Tree) → Yields m (Reached t) → Yields (look E S t End >>= follow_or m again) (Reached t)
+    part_yields t p m y = then_yields (Step t) (Reached t) (look E S t End) (follow_or m again) (look_none t p) go
+      where
+        go : (o : Option Tree) → Step t o → Yields (follow_or m again o) (Reached t)
+        go None s = y
+        go (Some u) s = charges (Reached t) (again u) (so_yields (λ v. AllMetas P u → Reached u v) (Reached t) (again u) (λ v f. let r = f s.1 in (also s.0 r.0, r.1)) (ih u))
+
+    mutual
+      parts_yield : (t : Tree) → AllMetas P t → Yields (parts_by E S again t) (Reached t)
+      parts_yield (Prod x a b) p =
+          let Q = Reached (Prod x a b) in
+          then_yields (Reached a) Q (look E S a End >>= follow_or (parts_by E S again a) again) _ (part_yields a p.0 (parts_by E S again a) (parts_yield a p.0)) (λ c f.
+          then_yields (Reached b) Q (look E S b End >>= follow_or (parts_by E S again b) again) _ (part_yields b p.1 (parts_by E S again b) (parts_yield b p.1)) (λ d g.
+          gives Q (Prod x c d) (also (within (λ v. Prod x v b) (λ y z. in_dom) f.0) (within (λ v. Prod x c v) (λ y z. in_cod) g.0), (f.1, g.1))))
+      parts_yield (Lam x a b) p =
+          let Q = Reached (Lam x a b) in
+          then_yields (Reached a) Q (look E S a End >>= follow_or (parts_by E S again a) again) _ (part_yields a p.0 (parts_by E S again a) (parts_yield a p.0)) (λ c f.
+          then_yields (Reached b) Q (look E S b End >>= follow_or (parts_by E S again b) again) _ (part_yields b p.1 (parts_by E S again b) (parts_yield b p.1)) (λ d g.
+          gives Q (Lam x c d) (also (within (λ v. Lam x v b) (λ y z. in_type) f.0) (within (λ v. Lam x c v) (λ y z. in_body) g.0), (f.1, g.1))))
+      parts_yield (App a b) p =
+          let Q = Reached (App a b) in
+          then_yields (Reached a) Q (look E S a End >>= follow_or (parts_by E S again a) again) _ (part_yields a p.0 (parts_by E S again a) (parts_yield a p.0)) (λ c f.
+          then_yields (Reached b) Q (look E S b End >>= follow_or (parts_by E S again b) again) _ (part_yields b p.1 (parts_by E S again b) (parts_yield b p.1)) (λ d g.
+          gives Q (App c d) (also (within (λ v. App v b) (λ y z. in_fun) f.0) (within (λ v. App c v) (λ y z. in_arg) g.0), (f.1, g.1))))
+      parts_yield (Match e r c bs) p =
+          let Q = Reached (Match e r c bs) in
+          then_yields (Reached r) Q (look E S r End >>= follow_or (parts_by E S again r) again) _ (part_yields r p.0 (parts_by E S again r) (parts_yield r p.0)) (λ k f.
+          then_yields (Reached c) Q (look E S c End >>= follow_or (parts_by E S again c) again) _ (part_yields c p.1 (parts_by E S again c) (parts_yield c p.1)) (λ d g.
+          then_yields (ReachedArms bs) Q (arms_by E S again bs) _ (arms_yield bs p.2) (λ ds h.
+          gives Q (Match e k d ds) (also (within (λ v. Match e v c bs) (λ y z. in_return) f.0) (also (within (λ v. Match e k v bs) (λ y z. in_matched) g.0) (within_match e k d h.0)), (f.1, g.1, h.1)))))
+      parts_yield (Meta n s) p =
+          let Q = Reached (Meta n s) in
+          then_yields (ReachedAll s) Q (all_by E S again s) _ (all_yield s p.1) (λ r f. gives Q (Meta n r) (within_all (Meta n) (λ y z c. step (in_terms c)) f.0, (p.0, f.1)))
+      parts_yield (Var i) p = gives (Reached (Var i)) (Var i) (done, tt)
+      parts_yield (Sort s) p = gives (Reached (Sort s)) (Sort s) (done, tt)
+      parts_yield (Const c) p = gives (Reached (Const c)) (Const c) (done, tt)
+      parts_yield (Ind e) p = gives (Reached (Ind e)) (Ind e) (done, tt)
+      parts_yield (Con e k) p = gives (Reached (Con e k)) (Con e k) (done, tt)
+
+      all_yield : (s : Trees) → AllMetasIn P s → Yields (all_by E S again s) (ReachedAll s)
+      all_yield End p = gives (ReachedAll End) End (done_all, tt)
+      all_yield (Item t s) p =
+          let Q = ReachedAll (Item t s) in
+          then_yields (Reached t) Q (look E S t End >>= follow_or (parts_by E S again t) again) _ (part_yields t p.0 (parts_by E S again t) (parts_yield t p.0)) (λ u f.
+          then_yields (ReachedAll s) Q (all_by E S again s) _ (all_yield s p.1) (λ r g.
+          gives Q (Item u r) (also_all (within_item (λ v. Item v s) (λ y z. in_first) f.0) (within_rest u g.0), (f.1, g.1))))
+
+      arms_yield : (bs : Arms) → AllMetasArms P bs → Yields (arms_by E S again bs) (ReachedArms bs)
+      arms_yield NoArm p = gives (ReachedArms NoArm) NoArm (done_arms, tt)
+      arms_yield (Arm xs b bs) p =
+          let Q = ReachedArms (Arm xs b bs) in
+          then_yields (Reached b) Q (look E S b End >>= follow_or (parts_by E S again b) again) _ (part_yields b p.0 (parts_by E S again b) (parts_yield b p.0)) (λ c f.
+          then_yields (ReachedArms bs) Q (arms_by E S again bs) _ (arms_yield bs p.1) (λ cs g.
+          gives Q (Arm xs c cs) (also_arms (within_arm xs bs f.0) (within_later xs c g.0), (f.1, g.1))))
+
+  pub normal_yields : (t : Tree) → AllMetas P t → Yields (normal E S t) (Reached t)
+  unfolding normal
+  normal_yields t p n a r e =
+      fixed_yields Tree (λ t. Tree) (normal_by E S) (λ t u. AllMetas P t → Reached t u) (λ again ih t n a r e p. part_yields again ih t p (parts_by E S again t) (parts_yield again ih t p) n a r e) t n a r e p

@@ -1,6 +1,6 @@
 -- What a definition with charges yields, whatever the allowance: one rule for each way to put it together.
-use Rattle.std.specs.Prelude.{◌≡◌, ℕ, zero, suc, Bool, true, false, Option, Some, None}
-use Rattle.std.proofs.Common.{sym, ap, ◌∙◌, subst}
+use Rattle.std.specs.Prelude.{◌≡◌, ℕ, zero, suc, true, false, Some, None}
+use Rattle.std.proofs.Common.{ap, subst}
 use Rattle.mt_term.specs.Declarations.{Reason}
 use Rattle.mt_term.specs.Charges.{Outcome, Done, Refused, Spent, Charged, give, refuse, and_then, ◌>>=◌, charge, or_else, tried}
 use Rattle.mt_term.specs.Knot.{within, fixed}

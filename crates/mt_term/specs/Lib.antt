@@ -33,6 +33,7 @@ pub mod WeakHead
 pub mod Comparison
 pub mod Inference
 pub mod KernelCheck
+pub mod ReductionLaws
 pub mod Scopes
 pub mod Positivity
 pub mod Guard

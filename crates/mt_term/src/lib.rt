@@ -14,6 +14,7 @@ mod lifting;
 mod modes;
 mod names;
 mod notes;
+pub mod reductions;
 mod refusals;
 mod replacement;
 mod states;
