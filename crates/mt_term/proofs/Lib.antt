@@ -46,3 +46,4 @@ pub mod InferenceParts
 pub mod InferenceSoundness
 pub mod StoreSteps
 pub mod ReductionTheorems
+pub mod PlaceLaws

@@ -1,11 +1,11 @@
 -- The laws over derivations, as statements.
-use Rattle.std.specs.Prelude.{◌≡◌, ℕ, Bool, List, ◌∷◌, Some, slice_get}
+use Rattle.std.specs.Prelude.{◌≡◌, ℕ, Bool, List, ◌∷◌, Some, slice_get, zero, suc, None, ◌++◌, length}
 use Rattle.mt_term.specs.declared.universes.UnivExpr.{UnivExpr}
 use Rattle.mt_term.specs.Universes.{IsAtMost}
 use Rattle.mt_term.specs.Trees.{Tree, Trees, Var, Meta}
-use Rattle.mt_term.specs.Substitution.{tr, fill, beyond, under, one}
+use Rattle.mt_term.specs.Substitution.{tr, fill, beyond, under, one, lift, raise, put, substitute}
 use Rattle.mt_term.specs.Declarations.{Declaration, Environment}
-use Rattle.mt_term.specs.Stores.{Declared, Store, Owned, Extends}
+use Rattle.mt_term.specs.Stores.{Declared, Store, Owned, Extends, AllMetas, InStore}
 use Rattle.mt_term.specs.Typing.{Look, Insert, ins, Claim, IsContext, IsType, Has, ren_claim, tr_claim, tr_context, Holds, Strict}
 use Rattle.mt_term.specs.Scopes.{PlainContext, PlainClaim}
 use Rattle.mt_term.specs.SoundEnvironment.{SoundEnvironment}
@@ -62,3 +62,44 @@ pub record Renumbered (μ : ℕ → ℕ) (d c : Declared) : Type 0 where
 abbrev pub RenumberingLaw : Type 0
 RenumberingLaw = (E : Environment) → SoundEnvironment E → (w : Bool) (S S' : Store) → Owned S → (μ : ℕ → ℕ) → ((n : ℕ) (d : Declared) → S.at n ≡ Some d → (c : Declared) × (S'.at (μ n) ≡ Some c) × Renumbered μ d c)
     → (Γ : List Tree) (J : Claim) → Holds E w S Γ J → Holds E w S' (tr_context (renumbered μ) Γ) (tr_claim (renumbered μ) Var J)
+
+-- a context is another with `by` further hypotheses at a place; the older ones are Δ
+pub data Lifted (by : ℕ) (Δ : List Tree) : ℕ → List Tree → List Tree → Type 0 where
+  lifted_here : (Θ : List Tree) → length Θ ≡ by → Lifted by Δ zero Δ (Θ ++ Δ)
+  lifted_past : {k : ℕ} {B : Tree} {Γ Γ' : List Tree} → Lifted by Δ k Γ Γ' → Lifted by Δ (suc k) (B ∷ Γ) (lift by k B ∷ Γ')
+
+-- lifting: a judgement holds, lifted, in each context that is its own with further hypotheses at a place
+abbrev pub LiftLaw : Type 0
+LiftLaw = (E : Environment) → SoundEnvironment E → (w : Bool) (S : Store) → Owned S → (by at : ℕ) (Δ Γ Γ' : List Tree) (J : Claim) → Lifted by Δ at Γ Γ' → Holds E w S Γ' IsContext → Holds E w S Γ J → Holds E w S Γ' (ren_claim (raise by at) J)
+
+-- a context without the hypothesis A at a place, and with u for it in the later ones; the older ones are Δ
+pub data Replaced (A u : Tree) (Δ : List Tree) : ℕ → List Tree → List Tree → Type 0 where
+  replaced_here : Replaced A u Δ zero (A ∷ Δ) Δ
+  replaced_past : {k : ℕ} {B : Tree} {Γ Γ' : List Tree} → Replaced A u Δ k Γ Γ' → Replaced A u Δ (suc k) (B ∷ Γ) (substitute k u B ∷ Γ')
+
+-- replacement: a judgement holds with a term for a hypothesis at any place, whose type the term has under the hypotheses before it
+abbrev pub ReplacementLaw : Type 0
+ReplacementLaw = (E : Environment) → SoundEnvironment E → (w : Bool) (S : Store) → Owned S → (A u : Tree) (at : ℕ) (Δ Γ Γ' : List Tree) (J : Claim) → Replaced A u Δ at Γ Γ' → Holds E w S Δ (Has u A) → Holds E w S Γ J → Holds E w S Γ' (tr_claim Meta (put at u) J)
+
+-- what an open metavariable is exchanged for: another number, or a term
+pub data Exchanged : Type 0 where
+  by_number : ℕ → Exchanged
+  by_term : Tree → Exchanged
+
+abbrev pub exchanged_on : Exchanged → Trees → Tree
+exchanged_on (by_number m) s = Meta m s
+exchanged_on (by_term u) s = under s u
+
+-- a metavariable on its terms: under its new number, or the term under them
+abbrev pub exchanged : (ℕ → Exchanged) → ℕ → Trees → Tree
+exchanged μ n s = exchanged_on (μ n) s
+
+-- metavariable d may be exchanged: a second store holds the images of its context and its type under the number; or the term has there the image of its type in the image of its context
+abbrev pub ExchangedBy : Environment → Bool → Store → (ℕ → Trees → Tree) → Declared → Exchanged → Type 0
+ExchangedBy E w S f d (by_number m) = (c : Declared) × (S.at m ≡ Some c) × (c.context ≡ tr_context f (d.context)) × (c.ty ≡ tr f Var (d.ty))
+ExchangedBy E w S f d (by_term u) = Holds E w S (tr_context f (d.context)) (Has u (tr f Var (d.ty))) × AllMetas (InStore S) u
+
+-- exchange: the image of each judgement over a store of open metavariables holds over the second store
+abbrev pub ExchangeLaw : Type 0
+ExchangeLaw = (E : Environment) → SoundEnvironment E → (w : Bool) (S S' : Store) → Owned S → Owned S' → ((n : ℕ) (d : Declared) → S.at n ≡ Some d → d.body ≡ None) → (μ : ℕ → Exchanged) → ((n : ℕ) (d : Declared) → S.at n ≡ Some d → ExchangedBy E w S' (exchanged μ) d (μ n))
+    → (Γ : List Tree) (J : Claim) → Holds E w S Γ J → Holds E w S' (tr_context (exchanged μ) Γ) (tr_claim (exchanged μ) Var J)

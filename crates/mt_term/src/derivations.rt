@@ -1,5 +1,5 @@
 // The laws over derivations and stores: each function does nothing, and its clause is the law.
-ghost use Rattle.mt_term.specs.Laws.{ContextLaw, WeakeningLaw, SubstitutionLaw, OneTermLaw, GrowthLaw, StrictLaw, ScopeLaw, ExtensionLaw, RenumberingLaw};
+ghost use Rattle.mt_term.specs.Laws.{ContextLaw, WeakeningLaw, SubstitutionLaw, OneTermLaw, GrowthLaw, StrictLaw, ScopeLaw, ExtensionLaw, RenumberingLaw, LiftLaw, ReplacementLaw, ExchangeLaw};
 ghost use Rattle.mt_term.specs.StoreLaws.{OneInstanceLaw, InstanceLaw, SoundInstancesLaw, DeclareLaw, AssignLaw};
 
 /// The context of a judgement is a context.
@@ -70,4 +70,19 @@ pub fn declaring()
 /// An assignment keeps a store sound.
 pub fn assigning()
     ensures law { AssignLaw }
+{}
+
+/// A judgement holds, lifted, with further hypotheses at any place.
+pub fn lifting()
+    ensures law { LiftLaw }
+{}
+
+/// A judgement holds with a term for a hypothesis at any place.
+pub fn replacement()
+    ensures law { ReplacementLaw }
+{}
+
+/// A judgement holds with its open metavariables exchanged for numbers or terms.
+pub fn exchange()
+    ensures law { ExchangeLaw }
 {}
