@@ -47,3 +47,4 @@ pub mod InferenceSoundness
 pub mod StoreSteps
 pub mod ReductionTheorems
 pub mod PlaceLaws
+pub mod NormalRules

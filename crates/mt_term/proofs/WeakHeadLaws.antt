@@ -116,7 +116,7 @@ module _ (E : Environment) (S : Store) (k i : ℕ) (again again' : Tree → Char
   part-agree t m m' g = then-agree k i _ _ _ _ (look-agree E S k i t End) (follow_or-agree m m' g)
 
   mutual
-    parts-agree : (t : Tree) → Agree k i (parts_by E S again t) (parts_by E S again' t)
+    pub parts-agree : (t : Tree) → Agree k i (parts_by E S again t) (parts_by E S again' t)
     parts-agree (Prod x a b) = then-agree k i _ _ _ _ (part-agree a _ _ (parts-agree a)) (λ c. then-agree k i _ _ _ _ (part-agree b _ _ (parts-agree b)) (λ d. give-agree k i _))
     parts-agree (Lam x a b) = then-agree k i _ _ _ _ (part-agree a _ _ (parts-agree a)) (λ c. then-agree k i _ _ _ _ (part-agree b _ _ (parts-agree b)) (λ d. give-agree k i _))
     parts-agree (App f a) = then-agree k i _ _ _ _ (part-agree f _ _ (parts-agree f)) (λ c. then-agree k i _ _ _ _ (part-agree a _ _ (parts-agree a)) (λ d. give-agree k i _))
@@ -130,11 +130,11 @@ module _ (E : Environment) (S : Store) (k i : ℕ) (again again' : Tree → Char
     parts-agree (Ind e) = give-agree k i _
     parts-agree (Con e j) = give-agree k i _
 
-    all-agree : (s : Trees) → Agree k i (all_by E S again s) (all_by E S again' s)
+    pub all-agree : (s : Trees) → Agree k i (all_by E S again s) (all_by E S again' s)
     all-agree End = give-agree k i _
     all-agree (Item t s) = then-agree k i _ _ _ _ (part-agree t _ _ (parts-agree t)) (λ c. then-agree k i _ _ _ _ (all-agree s) (λ r. give-agree k i _))
 
-    arms-agree : (bs : Arms) → Agree k i (arms_by E S again bs) (arms_by E S again' bs)
+    pub arms-agree : (bs : Arms) → Agree k i (arms_by E S again bs) (arms_by E S again' bs)
     arms-agree NoArm = give-agree k i _
     arms-agree (Arm xs b bs) = then-agree k i _ _ _ _ (part-agree b _ _ (parts-agree b)) (λ c. then-agree k i _ _ _ _ (arms-agree bs) (λ ds. give-agree k i _))
 

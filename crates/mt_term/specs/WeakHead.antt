@@ -208,3 +208,13 @@ module _ (E : Environment) (S : Store) (again : Tree → Charged Tree) where
 -- the normal form
 unfoldable pub normal : Environment → Store → Tree → Charged Tree
 normal E S = fixed Tree (λ t. Tree) (normal_by E S)
+
+-- The parts of a normal form, by names that stay as they are in a goal: a weak head with each direct part replaced, each term of a list, and each branch body.
+unfoldable pub normal_parts : Environment → Store → Tree → Charged Tree
+normal_parts E S t = parts_by E S (normal E S) t
+
+unfoldable pub normal_terms : Environment → Store → Trees → Charged Trees
+normal_terms E S s = all_by E S (normal E S) s
+
+unfoldable pub normal_arms : Environment → Store → Arms → Charged Arms
+normal_arms E S bs = arms_by E S (normal E S) bs
