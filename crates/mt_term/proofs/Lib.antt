@@ -48,3 +48,4 @@ pub mod StoreSteps
 pub mod ReductionTheorems
 pub mod PlaceLaws
 pub mod NormalRules
+mod CalculusExamples
