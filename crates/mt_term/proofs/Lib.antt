@@ -1,3 +1,4 @@
+pub mod UniverseAtoms
 pub mod UniverseFormLaws
 pub mod UniverseOrderLaws
 pub mod FirstSoundness

@@ -56,9 +56,12 @@ with_atom a (b ∷ bs) =
     else if a.name == b.name then record { name = b.name; offset = max a.offset b.offset } ∷ bs
     else b ∷ with_atom a bs
 
+abbrev pub with_atoms : List Atom → List Atom → List Atom
+with_atoms [] bs = bs
+with_atoms (a ∷ rest) bs = with_atom a (with_atoms rest bs)
+
 abbrev pub by_name : List Atom → List Atom
-by_name [] = []
-by_name (a ∷ rest) = with_atom a (by_name rest)
+by_name xs = with_atoms xs []
 
 -- some offset is at least n
 abbrev pub reaches : ℕ → List Atom → Bool
@@ -83,8 +86,11 @@ raised_atoms [] = []
 raised_atoms (a ∷ rest) = record { name = a.name; offset = a.offset + 1 } ∷ raised_atoms rest
 
 -- no number passes 4,294,967,295
+abbrev pub fits_atom : Atom → Bool
+fits_atom a = nat_lt a.offset (2 ^ 32)
+
 abbrev pub fits : UnivExpr → Bool
-fits u = nat_lt u.base (2 ^ 32) && list_all (λ (a : Atom). nat_lt a.offset (2 ^ 32)) u.atoms
+fits u = nat_lt u.base (2 ^ 32) && list_all fits_atom u.atoms
 
 abbrev pub if_fits : UnivExpr → Option UnivExpr
 if_fits u = if fits u then Some u else None

@@ -23,6 +23,7 @@ mod substitution;
 mod terms;
 #[cfg(test)]
 mod tests;
+mod universe_forms;
 mod universes;
 
 pub use alikeness::alike;
@@ -43,4 +44,5 @@ pub use std::alloc::AllocError as OutOfMemory;
 pub use stores::{Metas, PlainMeta, PlainStore};
 pub use substitution::{filled, substitute, under};
 pub use terms::{Branch, Branches, Term, Terms};
+pub use universe_forms::{maximum, normal_form, raised};
 pub use universes::{Atom, Atoms, Sort, UnivExpr};

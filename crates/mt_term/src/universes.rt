@@ -37,6 +37,13 @@ impl Atoms {
         }
     }
 
+    /// These atoms.
+    pub fn from_vec(items: Vec<Atom>) -> Atoms
+        ensures { result ≡ items.items }
+    {
+        Atoms { items }
+    }
+
     /// Appends an atom.
     pub fn push(&mut self, atom: Atom) -> Result<(), AllocError>
         ensures ok { OnOk result (self.new ≡ self.old ++ atom ∷ []) }

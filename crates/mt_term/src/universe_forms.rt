@@ -1,0 +1,189 @@
+// Normal forms of universe expressions, their maximum, and the expression of the values one higher.
+ghost use Rattle.std.specs.Prelude.{◌≡◌, ◌||◌, if◌then◌else◌, ◌^◌, ◌<◌, ◌≤◌, ◌++◌, true, false, length, take, drop, slice_index_or, MatchOption, SomeIff, IfOk, OnOk, OnErr};
+ghost use Rattle.std.specs.List.{list_all};
+ghost use Rattle.mt_term.specs.Universes.{with_atom, with_atoms, reaches, normal_form, maximum, fits_atom, raised_atoms, raised_base, raised};
+
+use crate::universes::{Atom, Atoms, UnivExpr};
+use std::alloc::{AllocError, AllocFailed, Global};
+
+/// The place of the first atom whose name is not below a name.
+fn place_of(atoms: &[Atom], atom: &Atom) -> usize
+    ensures within { result ≤ length atoms.now }
+    ensures before { with_atom atom.now atoms.now
+        ≡ take result atoms.now ++ with_atom atom.now (drop result atoms.now) }
+    ensures at { result < length atoms.now
+        → atom.now.name ≤ (slice_index_or atoms.now result atom.now).name }
+{
+    for (i, other) in atoms.iter().enumerate() {
+        if atom.name <= other.name {
+            return i;
+        }
+    }
+    atoms.len()
+}
+
+/// Adds an atom to atoms by name.
+fn add_atom(atoms: &mut Vec<Atom>, atom: Atom) -> Result<(), AllocError>
+    ensures ok { OnOk result (atoms.new.items ≡ with_atom atom atoms.old.items) }
+    ensures err { OnErr result (atoms.new.items ≡ atoms.old.items) }
+{
+    let place = place_of(atoms, &atom);
+    if place < atoms.len() && atoms[place].name == atom.name {
+        let offset = atom.offset.max(atoms[place].offset);
+        atoms[place] = Atom {
+            name: atom.name,
+            offset,
+        };
+    } else {
+        atoms.insert(place, atom)?;
+    }
+    Ok(())
+}
+
+/// Adds atoms to atoms by name.
+fn add_atoms(atoms: &mut Vec<Atom>, more: &[Atom]) -> Result<(), AllocError>
+    ensures { OnOk result (atoms.new.items ≡ with_atoms more.now atoms.old.items) }
+{
+    let mut left = more.len();
+    while 0 < left {
+        left -= 1;
+        add_atom(atoms, more[left])?;
+    }
+    Ok(())
+}
+
+/// Whether some offset is at least a number.
+fn reaches(base: u32, atoms: &[Atom]) -> bool
+    ensures { result ≡ reaches base atoms.now }
+{
+    atoms.iter().any(|a| base <= a.offset)
+}
+
+/// A base beside atoms: 0 where some offset is at least the base.
+fn base_beside(base: u32, atoms: &[Atom], more: &[Atom]) -> u32
+    ensures { result ≡ (if reaches base atoms.now || reaches base more.now then 0 else base) }
+{
+    if reaches(base, atoms) || reaches(base, more) {
+        0
+    } else {
+        base
+    }
+}
+
+/// The normal form of a base and atoms: one atom for each name, by the names' numbers, and base 0 where some offset is at least the base.
+pub fn normal_form(alloc: Global, u: &UnivExpr) -> Result<UnivExpr, AllocError>
+    ensures { IfOk result (λ n. n ≡ normal_form u.now) }
+{
+    let mut atoms = Vec::new(alloc);
+    add_atoms(&mut atoms, u.atoms.as_slice())?;
+    let base = if reaches(u.base, u.atoms.as_slice()) {
+        0
+    } else {
+        u.base
+    };
+    Ok(UnivExpr {
+        base,
+        atoms: Atoms::from_vec(atoms),
+    })
+}
+
+/// The maximum of two expressions, in normal form.
+pub fn maximum(alloc: Global, u: &UnivExpr, w: &UnivExpr) -> Result<UnivExpr, AllocError>
+    ensures { IfOk result (λ n. n ≡ maximum u.now w.now) }
+{
+    let mut atoms = Vec::new(alloc);
+    add_atoms(&mut atoms, w.atoms.as_slice())?;
+    add_atoms(&mut atoms, u.atoms.as_slice())?;
+    Ok(UnivExpr {
+        base: base_beside(u.base.max(w.base), u.atoms.as_slice(), w.atoms.as_slice()),
+        atoms: Atoms::from_vec(atoms),
+    })
+}
+
+/// The atoms with each offset one higher, where all fit.
+fn raised_atoms(alloc: Global, atoms: &[Atom]) -> Result<Option<Vec<Atom>>, AllocError>
+    ensures { IfOk result (λ r. MatchOption r
+        (list_all fits_atom (raised_atoms atoms.now) ≡ false)
+        (λ v. (v.items ≡ raised_atoms atoms.now)
+        × (list_all fits_atom (raised_atoms atoms.now) ≡ true))) }
+{
+    let mut higher = Vec::new(alloc);
+    for atom in atoms {
+        match atom.offset.checked_add(1) {
+            Some(offset) => higher.push(Atom {
+                name: atom.name,
+                offset,
+            })?,
+            None => return Ok(None),
+        }
+    }
+    Ok(Some(higher))
+}
+
+/// The base one higher, where it fits; 0 beside atoms stays.
+fn raised_base(base: u32, atoms: &[Atom]) -> Option<u32>
+    ensures { SomeIff result (raised_base base atoms.now < 2 ^ 32) (raised_base base atoms.now) }
+{
+    if base == 0 && !atoms.is_empty() {
+        Some(0)
+    } else {
+        base.checked_add(1)
+    }
+}
+
+/// The expression of the values one higher; none where a number would pass 4,294,967,295.
+pub fn raised(alloc: Global, u: &UnivExpr) -> Result<Option<UnivExpr>, AllocError>
+    ensures { IfOk result (λ r. r ≡ raised u.now) }
+{
+    let atoms = match raised_atoms(alloc, u.atoms.as_slice())? {
+        Some(atoms) => atoms,
+        None => return Ok(None),
+    };
+    match raised_base(u.base, u.atoms.as_slice()) {
+        Some(base) => Ok(Some(UnivExpr {
+            base,
+            atoms: Atoms::from_vec(atoms),
+        })),
+        None => Ok(None),
+    }
+}
+
+#[cfg(test)]
+mod tests {
+    use super::*;
+    use std::test::Fail;
+
+    fn sum(alloc: Global, base: u32, atoms: &[(usize, u32)]) -> Result<UnivExpr, Fail> {
+        let mut list = Atoms::new(alloc);
+        for (name, offset) in atoms {
+            list.push(Atom {
+                name: *name,
+                offset: *offset,
+            })?;
+        }
+        Ok(UnivExpr { base, atoms: list })
+    }
+
+    #[test]
+    fn forms_of_universe_expressions(rt: HostRuntime) -> Result<(), Fail> {
+        let alloc = rt.alloc();
+        let first = normal_form(alloc, &sum(alloc, 3, &[(1, 1), (0, 2), (1, 3)])?)?;
+        assert_eq!(rt; first.base, 0);
+        assert!(rt;
+            first.atoms.as_slice()
+                == [Atom { name: 0, offset: 2 }, Atom { name: 1, offset: 3 }].as_slice()
+        );
+        let most = maximum(
+            alloc,
+            &sum(alloc, 4, &[(1, 3)])?,
+            &sum(alloc, 2, &[(0, 1)])?,
+        )?;
+        assert_eq!(rt; most.base, 4);
+        assert_eq!(rt; most.atoms.len(), 2);
+        let higher = raised(alloc, &sum(alloc, 0, &[(1, 3)])?)?.ok_or("it fits")?;
+        assert_eq!(rt; higher.base, 0);
+        assert!(rt; higher.atoms.as_slice() == [Atom { name: 1, offset: 4 }].as_slice());
+        assert!(rt; raised(alloc, &sum(alloc, 4294967295, &[])?)?.is_none());
+        Ok(())
+    }
+}
