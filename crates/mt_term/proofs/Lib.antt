@@ -50,3 +50,4 @@ pub mod ReductionTheorems
 pub mod PlaceLaws
 pub mod NormalRules
 mod CalculusExamples
+pub mod UnfoldLaws

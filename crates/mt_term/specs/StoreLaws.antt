@@ -1,10 +1,11 @@
 -- The laws over stores, as statements.
-use Rattle.std.specs.Prelude.{◌≡◌, ◌≢◌, ℕ, List, Some, None, true}
+use mathlib.Core.Path.{ap}
+use Rattle.std.specs.Prelude.{Bool, false, Option, ◌≡◌, ◌≢◌, ℕ, List, Some, None, true}
 use Rattle.mt_term.specs.Trees.{Tree}
 use Rattle.mt_term.specs.Declarations.{Environment}
-use Rattle.mt_term.specs.Stores.{Declared, Store, AllMetas, AllMetasOf, InStore, Reaches}
+use Rattle.mt_term.specs.Stores.{Declared, Store, AllMetasHeld, AllMetas, AllMetasOf, InStore, Reaches}
 use Rattle.mt_term.specs.Typing.{Claim, IsContext, IsType, Has, Stands, Holds}
-use Rattle.mt_term.specs.Instances.{InstanceOf, InstanceContext, InstanceOfStore}
+use Rattle.mt_term.specs.Instances.{InstanceOf, InstanceContext, OpenInstance, InstanceOfStore}
 use Rattle.mt_term.specs.SoundEnvironment.{SoundEnvironment}
 use Rattle.mt_term.specs.SoundStore.{SoundStore, SoundByInstances}
 
@@ -44,3 +45,31 @@ with_body d v = record { context = d.context; ty = d.ty; body = Some v }
 -- the assignment of an open metavariable, to a term of its type that does not reach it, keeps a store sound
 abbrev pub AssignLaw : Type 0
 AssignLaw = (E : Environment) (S S' : Store) → SoundEnvironment E → SoundStore E S → (n : ℕ) (d : Declared) (v : Tree) → S.at n ≡ Some d → d.body ≡ None → AllMetas (InStore S) v → (Reaches S v n → ⊥) → Holds E true S (d.context) (Has v (d.ty)) → Puts S n (with_body d v) S' → SoundStore E S'
+
+-- a metavariable without its body, where it is kept
+abbrev pub kept_as : Bool → Declared → Option Declared
+kept_as true d = Some (record { context = d.context; ty = d.ty; body = None })
+kept_as false d = Some d
+
+abbrev pub without_body : Bool → Option Declared → Option Declared
+without_body p None = None
+without_body p (Some d) = kept_as p d
+
+-- A store without the bodies of the metavariables that are kept. Its instances unfold the others alone.
+abbrev pub outside : Store → (ℕ → Bool) → Store
+outside S kept = record { at = λ n. without_body (kept n) (S.at n); bound = S.bound; none = λ n h. ap (without_body (kept n)) (S.none n h) }
+
+-- a set has all that its members' contexts, types and bodies mention
+abbrev pub ClosedSet : Store → (ℕ → Bool) → Type 0
+ClosedSet S kept = (n : ℕ) (d : Declared) → kept n ≡ true → S.at n ≡ Some d → AllMetasHeld (λ m. kept m ≡ true) d
+
+-- the second store has the metavariables that are kept as they are, and of the others the open ones alone, with the instances of their contexts and types
+pub record UnfoldedStore (S : Store) (kept : ℕ → Bool) (S' : Store) : Type 0 where
+  pub same : (n : ℕ) → kept n ≡ true → S'.at n ≡ S.at n
+  pub absent : (n : ℕ) → S.at n ≡ None → S'.at n ≡ None
+  pub assigned : (n : ℕ) (d : Declared) (b : Tree) → kept n ≡ false → S.at n ≡ Some d → d.body ≡ Some b → S'.at n ≡ None
+  pub opened : (n : ℕ) (d : Declared) → kept n ≡ false → S.at n ≡ Some d → d.body ≡ None → (c : Declared) × (S'.at n ≡ Some c) × OpenInstance (outside S kept) d c
+
+-- a judgement over a sound store holds where the assigned metavariables outside a closed set are unfolded
+abbrev pub UnfoldLaw : Type 0
+UnfoldLaw = (E : Environment) (S S' : Store) → SoundEnvironment E → SoundStore E S → (kept : ℕ → Bool) → ClosedSet S kept → UnfoldedStore S kept S' → (Γ Γ' : List Tree) (J J' : Claim) → InstanceContext (outside S kept) Γ Γ' → InstanceClaim (outside S kept) J J' → Holds E true S Γ J → Holds E true S' Γ' J'

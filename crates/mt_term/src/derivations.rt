@@ -1,6 +1,6 @@
 // The laws over derivations and stores: each function does nothing, and its clause is the law.
 ghost use Rattle.mt_term.specs.Laws.{ContextLaw, WeakeningLaw, SubstitutionLaw, OneTermLaw, GrowthLaw, StrictLaw, ScopeLaw, ExtensionLaw, RenumberingLaw, LiftLaw, ReplacementLaw, ExchangeLaw};
-ghost use Rattle.mt_term.specs.StoreLaws.{OneInstanceLaw, InstanceLaw, SoundInstancesLaw, DeclareLaw, AssignLaw};
+ghost use Rattle.mt_term.specs.StoreLaws.{OneInstanceLaw, InstanceLaw, SoundInstancesLaw, DeclareLaw, AssignLaw, UnfoldLaw};
 
 /// The context of a judgement is a context.
 pub fn context_of_judgement()
@@ -85,4 +85,9 @@ pub fn replacement()
 /// A judgement holds with its open metavariables exchanged for numbers or terms.
 pub fn exchange()
     ensures law { ExchangeLaw }
+{}
+
+/// A judgement over a sound store holds where the assigned metavariables outside a closed set are unfolded.
+pub fn unfold_outside()
+    ensures law { UnfoldLaw }
 {}
