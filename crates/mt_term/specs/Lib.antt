@@ -6,6 +6,7 @@ pub mod Declarations
 pub mod Substitution
 pub mod Passing
 pub mod Replaced
+pub mod Depth
 pub mod Charges
 pub mod FirstTerms
 pub mod Reduction

@@ -2,75 +2,99 @@
 ghost use Rattle.std.specs.Prelude.{◌≡◌, IfOk};
 ghost use Rattle.mt_term.specs.TreeOf.{tree_of, trees_of, arms_of};
 
+use crate::depth::{MOST_DEEP, deeper};
 use crate::terms::{Branch, Branches, Term, Terms};
 use std::alloc::{AllocError, Global};
 
 /// A copy of a term.
-#[cycle(copy)]
 pub fn copy(alloc: Global, t: &Term) -> Result<Term, AllocError>
     ensures { IfOk result (λ u. tree_of u ≡ tree_of t.now) }
 {
+    copy_within(alloc, t, MOST_DEEP)
+}
+
+/// A copy of the terms of a metavariable.
+pub fn copy_terms(alloc: Global, ts: &Terms) -> Result<Terms, AllocError>
+    ensures { IfOk result (λ us. trees_of us ≡ trees_of ts.now) }
+{
+    copy_terms_within(alloc, ts, MOST_DEEP)
+}
+
+/// A copy of the branches of a match.
+pub fn copy_branches(alloc: Global, bs: &Branches) -> Result<Branches, AllocError>
+    ensures { IfOk result (λ cs. arms_of cs ≡ arms_of bs.now) }
+{
+    copy_branches_within(alloc, bs, MOST_DEEP)
+}
+
+#[cycle(copy)]
+fn copy_within(alloc: Global, t: &Term, deep: usize) -> Result<Term, AllocError>
+    ensures { IfOk result (λ u. tree_of u ≡ tree_of t.now) }
+{
+    let deep = deeper(deep)?;
     match t {
         Term::Var(i) => Ok(Term::Var(*i)),
         Term::Sort(s) => Ok(Term::Sort(s.clone()?)),
         Term::Prod(x, a, b) => {
             let x = x.clone()?;
-            let a = Box::new(alloc, copy(alloc, a)?)?;
-            let b = Box::new(alloc, copy(alloc, b)?)?;
+            let a = Box::new(alloc, copy_within(alloc, a, deep)?)?;
+            let b = Box::new(alloc, copy_within(alloc, b, deep)?)?;
             Ok(Term::Prod(x, a, b))
         }
         Term::Lam(x, a, b) => {
             let x = x.clone()?;
-            let a = Box::new(alloc, copy(alloc, a)?)?;
-            let b = Box::new(alloc, copy(alloc, b)?)?;
+            let a = Box::new(alloc, copy_within(alloc, a, deep)?)?;
+            let b = Box::new(alloc, copy_within(alloc, b, deep)?)?;
             Ok(Term::Lam(x, a, b))
         }
         Term::App(f, a) => {
-            let f = Box::new(alloc, copy(alloc, f)?)?;
-            let a = Box::new(alloc, copy(alloc, a)?)?;
+            let f = Box::new(alloc, copy_within(alloc, f, deep)?)?;
+            let a = Box::new(alloc, copy_within(alloc, a, deep)?)?;
             Ok(Term::App(f, a))
         }
         Term::Const(n) => Ok(Term::Const(*n)),
         Term::Ind(n) => Ok(Term::Ind(*n)),
         Term::Con(n, k) => Ok(Term::Con(*n, *k)),
         Term::Match(n, r, c, bs) => {
-            let r = Box::new(alloc, copy(alloc, r)?)?;
-            let c = Box::new(alloc, copy(alloc, c)?)?;
-            let bs = copy_branches(alloc, bs)?;
+            let r = Box::new(alloc, copy_within(alloc, r, deep)?)?;
+            let c = Box::new(alloc, copy_within(alloc, c, deep)?)?;
+            let bs = copy_branches_within(alloc, bs, deep)?;
             Ok(Term::Match(*n, r, c, bs))
         }
-        Term::Meta(n, s) => Ok(Term::Meta(*n, copy_terms(alloc, s)?)),
+        Term::Meta(n, s) => Ok(Term::Meta(*n, copy_terms_within(alloc, s, deep)?)),
     }
 }
 
-/// A copy of the terms of a metavariable.
 #[cycle(copy)]
-pub fn copy_terms(alloc: Global, ts: &Terms) -> Result<Terms, AllocError>
+#[inline(never)]
+fn copy_terms_within(alloc: Global, ts: &Terms, deep: usize) -> Result<Terms, AllocError>
     ensures { IfOk result (λ us. trees_of us ≡ trees_of ts.now) }
 {
+    let deep = deeper(deep)?;
     match ts {
         Terms::End => Ok(Terms::End),
         Terms::Item(t, ts) => {
-            let t = Box::new(alloc, copy(alloc, t)?)?;
-            let ts = Box::new(alloc, copy_terms(alloc, ts)?)?;
+            let t = Box::new(alloc, copy_within(alloc, t, deep)?)?;
+            let ts = Box::new(alloc, copy_terms_within(alloc, ts, deep)?)?;
             Ok(Terms::Item(t, ts))
         }
     }
 }
 
-/// A copy of the branches of a match.
 #[cycle(copy)]
-pub fn copy_branches(alloc: Global, bs: &Branches) -> Result<Branches, AllocError>
+#[inline(never)]
+fn copy_branches_within(alloc: Global, bs: &Branches, deep: usize) -> Result<Branches, AllocError>
     ensures { IfOk result (λ cs. arms_of cs ≡ arms_of bs.now) }
 {
+    let deep = deeper(deep)?;
     match bs {
         Branches::End => Ok(Branches::End),
         Branches::Item(b, bs) => {
             let branch = b;
             let names = branch.names.clone()?;
-            let body = copy(alloc, &branch.body)?;
+            let body = copy_within(alloc, &branch.body, deep)?;
             let b = Box::new(alloc, Branch { names, body })?;
-            let bs = Box::new(alloc, copy_branches(alloc, bs)?)?;
+            let bs = Box::new(alloc, copy_branches_within(alloc, bs, deep)?)?;
             Ok(Branches::Item(b, bs))
         }
     }

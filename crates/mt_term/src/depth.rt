@@ -1,9 +1,12 @@
 // How deep a term may be, so that what goes down one never overruns the machine's stack.
-ghost use Rattle.std.specs.Prelude.{◌≡◌, ◌+◌, IfOk};
+ghost use Rattle.std.specs.Prelude.{◌≡◌, ◌+◌, ◌≤◌, ◌<◌, IfOk, MatchBool};
+ghost use Rattle.mt_term.specs.Depth.{depth, depth_all, depth_arms};
+ghost use Rattle.mt_term.specs.TreeOf.{tree_of, trees_of, arms_of};
 
+use crate::terms::{Branches, Term, Terms};
 use std::alloc::AllocError;
 
-/// How deep a term made by this crate may be.
+/// How deep a term made by this crate may be. On a stack of 8 MiB a substitution goes down three times as deep, and a drop and a comparison fifteen times.
 pub const MOST_DEEP: usize = 2000;
 
 /// The depth that is left one step further down. Where there is none, memory is wanting.
@@ -21,4 +24,56 @@ pub(crate) fn past(index: usize, binders: usize) -> Result<usize, AllocError>
     ensures { IfOk result (λ further. further ≡ index + binders) }
 {
     index.checked_add(binders).ok_or(AllocError)
+}
+
+/// Whether a term is no deeper than so many steps. One that is put together by hand may be deeper than `MOST_DEEP`.
+#[cycle(depth)]
+pub fn is_within(t: &Term, deep: usize) -> bool
+    ensures { MatchBool result (depth (tree_of t.now) ≤ deep) (deep < depth (tree_of t.now)) }
+{
+    if deep == 0 {
+        return false;
+    }
+    let deep = deep - 1;
+    match t {
+        Term::Var(_) | Term::Sort(_) | Term::Const(_) | Term::Ind(_) | Term::Con(_, _) => true,
+        Term::Prod(_, a, b) => is_within(a, deep) && is_within(b, deep),
+        Term::Lam(_, a, b) => is_within(a, deep) && is_within(b, deep),
+        Term::App(f, a) => is_within(f, deep) && is_within(a, deep),
+        Term::Match(_, r, c, bs) => {
+            is_within(r, deep) && is_within(c, deep) && are_branches_within(bs, deep)
+        }
+        Term::Meta(_, ts) => are_terms_within(ts, deep),
+    }
+}
+
+#[cycle(depth)]
+fn are_terms_within(ts: &Terms, deep: usize) -> bool
+    ensures { MatchBool result (depth_all (trees_of ts.now) ≤ deep)
+        (deep < depth_all (trees_of ts.now)) }
+{
+    if deep == 0 {
+        return false;
+    }
+    match ts {
+        Terms::End => true,
+        Terms::Item(t, ts) => is_within(t, deep - 1) && are_terms_within(ts, deep - 1),
+    }
+}
+
+#[cycle(depth)]
+fn are_branches_within(bs: &Branches, deep: usize) -> bool
+    ensures { MatchBool result (depth_arms (arms_of bs.now) ≤ deep)
+        (deep < depth_arms (arms_of bs.now)) }
+{
+    if deep == 0 {
+        return false;
+    }
+    match bs {
+        Branches::End => true,
+        Branches::Item(b, bs) => {
+            let branch = b;
+            is_within(&branch.body, deep - 1) && are_branches_within(bs, deep - 1)
+        }
+    }
 }

@@ -29,7 +29,7 @@ mod universes;
 pub use alikeness::alike;
 pub use constructors::{Cons, Constructor};
 pub use copies::{copy, copy_branches, copy_terms};
-pub use depth::{MOST_DEEP, deeper};
+pub use depth::{MOST_DEEP, deeper, is_within};
 pub use entries::{Entries, Entry};
 pub use environment::{Pairs, PlainEnv};
 pub use equations::{PlainEq, PlainEqs};

@@ -61,6 +61,7 @@ pub(crate) fn lift_within(
 }
 
 #[cycle(lift)]
+#[inline(never)]
 fn lift_terms(
     alloc: Global,
     ts: &Terms,
@@ -82,6 +83,7 @@ fn lift_terms(
 }
 
 #[cycle(lift)]
+#[inline(never)]
 fn lift_branches(
     alloc: Global,
     bs: &Branches,

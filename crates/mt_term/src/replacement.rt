@@ -6,7 +6,7 @@ ghost use Rattle.mt_term.specs.Substitution.{fill};
 ghost use Rattle.mt_term.specs.Trees.{Tree};
 ghost use Rattle.mt_term.specs.TreeOf.{tree_of, trees_of};
 
-use crate::depth::{deeper, past};
+use crate::depth::{MOST_DEEP, deeper, past};
 use crate::lifting::lift_within;
 use crate::terms::{Term, Terms};
 use crate::universes::Sort;
@@ -62,11 +62,11 @@ pub(crate) fn replaced(
                 Ok(Term::Var(i - 1))
             }
         }
-        Replacement::Under(ts) => match find(ts, free, deep)? {
+        Replacement::Under(ts) => match find(ts, free, MOST_DEEP)? {
             Place::Found(u) => lift_within(alloc, u, binders, 0, deep),
             Place::Past(_) => Ok(Term::Sort(Sort::Prop)),
         },
-        Replacement::Filled(ts) => match find(ts, free, deep)? {
+        Replacement::Filled(ts) => match find(ts, free, MOST_DEEP)? {
             Place::Found(u) => lift_within(alloc, u, binders, 0, deep),
             Place::Past(further) => Ok(Term::Var(past(further, binders)?)),
         },

@@ -92,6 +92,7 @@ fn substitute_within(
 }
 
 #[cycle(substitute)]
+#[inline(never)]
 fn substitute_terms(
     alloc: Global,
     ts: &Terms,
@@ -113,6 +114,7 @@ fn substitute_terms(
 }
 
 #[cycle(substitute)]
+#[inline(never)]
 fn substitute_branches(
     alloc: Global,
     bs: &Branches,

@@ -2,7 +2,7 @@
 use crate::{
     Atom, Atoms, Branch, Branches, Cons, Constructor, Entries, Entry, GoalMarks, Hyp, Hyps, Metas,
     Name, Names, Note, Notes, Pairs, PlainEq, PlainEqs, PlainMeta, Refusal, Sort, Term, Terms,
-    UnivExpr, copy,
+    UnivExpr, alike, copy, filled, is_within, lift, substitute, under,
 };
 use std::alloc::{AllocError, Global};
 use std::test::Fail;
@@ -39,6 +39,7 @@ fn a_term_is_copied(rt: HostRuntime) -> Result<(), Fail> {
     let term = sample(alloc)?;
     let twin = copy(alloc, &term)?;
     assert!(rt; matches!(&twin, Term::Lam(x, _, _) if x.as_bytes() == b"x".as_slice()));
+    assert!(rt; is_within(&twin, 5) && !is_within(&twin, 4));
     Ok(())
 }
 
@@ -106,5 +107,73 @@ fn refusals_have_their_numbers(rt: HostRuntime) -> Result<(), Fail> {
     assert_eq!(rt; refusal.number(), 7);
     assert_eq!(rt; Refusal::Taken(name(alloc)?).number(), 6);
     assert_eq!(rt; Refusal::KernelRefused(7).number(), 22);
+    Ok(())
+}
+
+fn app(alloc: Global, function: Term, argument: Term) -> Result<Term, AllocError> {
+    Ok(Term::App(Box::new(alloc, function)?, Box::new(alloc, argument)?))
+}
+
+fn lam(alloc: Global, bytes: &[u8], body: Term) -> Result<Term, AllocError> {
+    let name = Name::from_bytes(alloc, bytes)?;
+    Ok(Term::Lam(
+        name,
+        Box::new(alloc, Term::Sort(Sort::Prop))?,
+        Box::new(alloc, body)?,
+    ))
+}
+
+// The list of `Prop` and `Type[0]`.
+fn two_sorts(alloc: Global) -> Result<Terms, AllocError> {
+    let newest = Box::new(alloc, first_type(alloc))?;
+    let rest = Terms::Item(newest, Box::new(alloc, Terms::End)?);
+    Ok(Terms::Item(
+        Box::new(alloc, Term::Sort(Sort::Prop))?,
+        Box::new(alloc, rest)?,
+    ))
+}
+
+fn first_type(alloc: Global) -> Term {
+    Term::Sort(Sort::Typ(UnivExpr {
+        base: 0,
+        atoms: Atoms::new(alloc),
+    }))
+}
+
+#[test]
+fn lifting_raises_free_variables(rt: HostRuntime) -> Result<(), Fail> {
+    let alloc = rt.alloc();
+    assert!(rt; matches!(&lift(alloc, &Term::Var(0), 2, 0)?, Term::Var(2)));
+    assert!(rt; matches!(&lift(alloc, &Term::Var(0), 2, 1)?, Term::Var(0)));
+    Ok(())
+}
+
+#[test]
+fn a_term_is_put_for_a_variable(rt: HostRuntime) -> Result<(), Fail> {
+    let alloc = rt.alloc();
+    let term = app(alloc, Term::Var(0), Term::Var(1))?;
+    let got = substitute(alloc, &term, 0, &Term::Sort(Sort::Prop))?;
+    assert!(rt; alike(&got, &app(alloc, Term::Sort(Sort::Prop), Term::Var(0))?));
+    Ok(())
+}
+
+#[test]
+fn terms_are_put_for_variables(rt: HostRuntime) -> Result<(), Fail> {
+    let alloc = rt.alloc();
+    let sorts = two_sorts(alloc)?;
+    let term = app(alloc, Term::Var(0), Term::Var(1))?;
+    let wanted = app(alloc, first_type(alloc), Term::Sort(Sort::Prop))?;
+    assert!(rt; alike(&under(alloc, &term, &sorts)?, &wanted));
+    let got = filled(alloc, &app(alloc, term, Term::Var(3))?, &sorts)?;
+    assert!(rt; alike(&got, &app(alloc, wanted, Term::Var(1))?));
+    Ok(())
+}
+
+#[test]
+fn binder_names_do_not_count(rt: HostRuntime) -> Result<(), Fail> {
+    let alloc = rt.alloc();
+    let term = lam(alloc, b"x".as_slice(), Term::Var(0))?;
+    assert!(rt; alike(&term, &lam(alloc, b"y".as_slice(), Term::Var(0))?));
+    assert!(rt; !alike(&term, &lam(alloc, b"x".as_slice(), Term::Var(1))?));
     Ok(())
 }
