@@ -1,5 +1,5 @@
 -- From what was read to what is written.
-use Rattle.std.proofs.Common.{◌≡◌, ◌<◌, ◌≤◌, ℕ, Bool, true, false, List, [], length, Option, Some, None, IfSome, refl, ap, ◌∙◌, sym, subst, arith}
+use Rattle.std.proofs.Common.{◌≡◌, ◌<◌, ◌≤◌, ℕ, ◌+◌, Bool, true, false, List, [], ◌++◌, length, take, Option, Some, None, IfSome, refl, ap, ◌∙◌, sym, subst, arith, append-nil, length-append}
 use Rattle.std.specs.Prelude.{if◌then◌else◌, nat_lt}
 use Rattle.std.specs.Str.{is_utf8, IsUtf8}
 use Rattle.std.proofs.lemmas.Str.{is_utf8-from_IsUtf8, IsUtf8-from_is_utf8}
@@ -8,7 +8,7 @@ use Rattle.std.specs.Io.KnownBytes.{Appends}
 use Rattle.std.proofs.KnownBytes.{Appends-nil}
 use Rattle.mt_text.specs.Causes.{AppendsPrefix}
 use Rattle.mt_session.specs.declared.serving.Status.TheVariants.{Done, Refused, BadFrame}
-use Rattle.mt_session.specs.Runs.{run, run_text, is_clean, is_script, output_of, status_of, most}
+use Rattle.mt_session.specs.Runs.{run, run_text, cost, is_clean, is_script, output_of, status_of, charges_of, most}
 
 pub script_short : (b : List ℕ) → length b ≤ most → is_script b ≡ is_utf8 b
 script_short b le = let e : nat_lt most (length b) ≡ false = grind (arith, nat_tests) in ap (λ t. if t then false else is_utf8 b) e
@@ -30,6 +30,17 @@ good_status b clean e c =
 
 pub good_output : (b text : List ℕ) → is_script b ≡ true → text ≡ run_text b (run b) → text ≡ output_of b
 good_output b text e t = t ∙ sym (ap (λ t. if t then run_text b (run b) else []) e)
+
+-- what a script is charged, and other bytes are not
+pub script_charged : (b : List ℕ) (before now : ℕ) → is_script b ≡ true → now ≡ before + cost b → now ≡ before + charges_of b
+script_charged b before now e c = c ∙ ap (λ t. before + (if t then cost b else 0)) (sym e)
+
+pub script_at_most : (b : List ℕ) (before now : ℕ) → is_script b ≡ true → now ≤ before + cost b → now ≤ before + charges_of b
+script_at_most b before now e c = subst (λ t. now ≤ before + (if t then cost b else 0)) (sym e) c
+
+pub other_uncharged : (b : List ℕ) (before : ℕ) → is_script b ≡ false → before ≡ before + charges_of b
+other_uncharged b before e =
+    let none : before ≡ before + 0 = omega arith in none ∙ ap (λ t. before + (if t then cost b else 0)) (sym e)
 
 -- nothing is a prefix
 pub prefix_none : (a : Option (List ℕ)) (bs : List ℕ) → AppendsPrefix a a bs

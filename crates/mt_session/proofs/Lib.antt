@@ -3,6 +3,7 @@ pub mod Places
 pub mod Printed
 pub mod Reading
 pub mod Stepping
+pub mod Costs
 pub mod Endings
 pub mod Soundness
 pub mod Numbers

@@ -1,10 +1,10 @@
 -- Steps of a run.
-use Rattle.std.proofs.Common.{◌≡◌, ◌<◌, ℕ, zero, suc, ◌+◌, ◌-◌, List, [], ◌∷◌, ◌++◌, length, Option, Some, None, refl, ap, ◌∙◌, sym, subst, arith, length-append}
+use Rattle.std.proofs.Common.{◌≡◌, ◌<◌, ◌≤◌, ℕ, zero, suc, ◌+◌, ◌-◌, List, [], ◌∷◌, ◌++◌, length, Option, Some, None, refl, ap, ◌∙◌, sym, subst, arith, length-append}
 use Rattle.std.specs.Prelude.{slice_get, Result, Ok, Err, IfOk, OnOk}
 use Rattle.std.specs.Str.{IsUtf8, IsCharBoundary}
 use Rattle.std.proofs.lemmas.Str.{IsCharBoundary-start}
 use Rattle.mt_term.specs.Trees.{Tree, Const, Sort}
-use Rattle.mt_term.specs.Declarations.{Declaration, Axiom, Definition, Reason, Syntax}
+use Rattle.mt_term.specs.Declarations.{Declaration, Axiom, Definition}
 use Rattle.mt_term.specs.FirstTerms.{IsPlainEnv, IsKnown, IsKnownEntry}
 use Rattle.mt_term.specs.Charges.{Outcome, Done, Refused, Spent}
 use Rattle.mt_term.specs.declared.refusals.Fault.{Fault}
@@ -12,9 +12,9 @@ use Rattle.mt_kernel.specs.Answers.{verdict_of}
 use Rattle.mt_session.specs.declared.running.State.{State}
 use Rattle.mt_session.specs.declared.running.Step.{Step}
 use Rattle.mt_session.specs.declared.running.Step.TheVariants.{On, Over}
-use Rattle.mt_session.specs.Units.{Reading, Got, Lacks, Item, AUnit, AtEnd, unit, name_of, names_of}
-use Rattle.mt_session.specs.Runs.{run, run_from, ended, judged, after_reading, kernel, refusal_of}
-use Rattle.mt_session.specs.Steps.{IsReady, Accepts, Refuses, JudgesEntry, GoesOn, IsOver, run_on, refusal_by, blame_in}
+use Rattle.mt_session.specs.Units.{Reading, Got, Item, AUnit, unit, name_of, names_of}
+use Rattle.mt_session.specs.Runs.{run, run_from, ended, refusal_of}
+use Rattle.mt_session.specs.Steps.{IsReady, Accepts, JudgesEntry, GoesOn, IsOver, run_on, refusal_by, blame_in}
 use Rattle.mt_session.proofs.Reading.{unit_known}
 
 pub refusal_verdict : (a : ℕ) (o : Outcome (Unit {0})) → refusal_by (verdict_of a o) ≡ refusal_of o
@@ -51,48 +51,14 @@ pub names_more : (es : List Declaration) (d : Declaration) → names_of (es ++ d
 names_more [] d = refl
 names_more (x ∷ es) d = ap (λ l. name_of x ∷ l) (names_more es d)
 
--- no unit is read
-pub lacks_unit : (text : List ℕ) (es : List Declaration) (units place at n : ℕ) → unit (names_of es) text place ≡ Lacks at → run_from text (suc n) es units place ≡ ended es units place (Some (Syntax, at))
-lacks_unit text es units place at n e =
-    ap (λ r. after_reading r (λ at. ended es units place (Some (Syntax, at))) (ended es units place None)
-    (λ start stop d. judged (refusal_of (kernel es d)) (λ r. ended es units place (Some (r, start))) (run_from text n (es ++ d ∷ []) (units + 1) stop))) e
-
-pub ends_units : (text : List ℕ) (es : List Declaration) (units place e n : ℕ) → unit (names_of es) text place ≡ Got AtEnd e → run_from text (suc n) es units place ≡ ended es units place None
-ends_units text es units place m n e =
-    ap (λ r. after_reading r (λ at. ended es units place (Some (Syntax, at))) (ended es units place None)
-    (λ start stop d. judged (refusal_of (kernel es d)) (λ r. ended es units place (Some (r, start))) (run_from text n (es ++ d ∷ []) (units + 1) stop))) e
-
--- a unit is read and judged
-judges_unit : (text : List ℕ) (es : List Declaration) (units place start stop m n : ℕ) (d : Declaration) (o : Option Reason) → unit (names_of es) text place ≡ Got (AUnit start stop d) m → refusal_of (kernel es d) ≡ o → run_from text (suc n) es units place ≡ judged o (λ r. ended es units place (Some (r, start))) (run_from text n (es ++ d ∷ []) (units + 1) stop)
-judges_unit text es units place start stop m n d o e k =
-    ap (λ r. after_reading r (λ at. ended es units place (Some (Syntax, at))) (ended es units place None)
-    (λ start stop d. judged (refusal_of (kernel es d)) (λ r. ended es units place (Some (r, start))) (run_from text n (es ++ d ∷ []) (units + 1) stop))) e
-    ∙ ap (λ p. judged p (λ r. ended es units place (Some (r, start))) (run_from text n (es ++ d ∷ []) (units + 1) stop)) k
-
+-- equal states run alike
 same_run : (text : List ℕ) (n : ℕ) (es fs : List Declaration) (u v p q : ℕ) → es ≡ fs → u ≡ v → p ≡ q → run_from text n es u p ≡ run_from text n fs v q
 same_run text n es fs u v p q e f g =
     ap (λ es. run_from text n es u p) e ∙ ap (λ u. run_from text n fs u p) f ∙ ap (λ p. run_from text n fs v p) g
 
-unit_over : (text : List ℕ) (s : State) (r : Reading Item) → IsReady text s → unit s.known text s.place ≡ r → unit (names_of s.env.entries) text s.place ≡ r
+-- a unit over the names of the environment
+pub unit_over : (text : List ℕ) (s : State) (r : Reading Item) → IsReady text s → unit s.known text s.place ≡ r → unit (names_of s.env.entries) text s.place ≡ r
 unit_over text s r ready e = ap (λ xs. unit xs text s.place) (sym ready.known) ∙ e
-
-pub no_unit : (text : List ℕ) (s : State) (at : ℕ) (f : Option Fault) → IsReady text s → unit s.known text s.place ≡ Lacks at → blame_in f ≡ Some (Syntax, at) → (n : ℕ) → run_on text (suc n) s ≡ ended s.env.entries s.units s.place (blame_in f)
-no_unit text s at f ready e b n =
-    lacks_unit text s.env.entries s.units s.place at n (unit_over text s (Lacks at) ready e) ∙ ap (ended s.env.entries s.units s.place) (sym b)
-
-pub at_end : (text : List ℕ) (s : State) (m : ℕ) → IsReady text s → unit s.known text s.place ≡ Got AtEnd m → (n : ℕ) → run_on text (suc n) s ≡ ended s.env.entries s.units s.place None
-at_end text s m ready e n = ends_units text s.env.entries s.units s.place m n (unit_over text s (Got AtEnd m) ready e)
-
-pub accepted : (text : List ℕ) (old new : State) (start stop m : ℕ) (d : Declaration) → IsReady text old → unit old.known text old.place ≡ Got (AUnit start stop d) m → Accepts old new stop d → (n : ℕ) → run_on text (suc n) old ≡ run_on text n new
-accepted text old new start stop m d ready e a n =
-    judges_unit text old.env.entries old.units old.place start stop m n d None (unit_over text old (Got (AUnit start stop d) m) ready e) a.passed
-    ∙ same_run text n (old.env.entries ++ d ∷ []) new.env.entries (old.units + 1) new.units stop new.place (sym a.entries) (sym a.units) (sym a.place)
-
-pub refused : (text : List ℕ) (old new : State) (start stop m : ℕ) (d : Declaration) (f : Option Fault) → IsReady text old → unit old.known text old.place ≡ Got (AUnit start stop d) m → Refuses old new start d f → (n : ℕ) → run_on text (suc n) old ≡ ended new.env.entries new.units new.place (blame_in f)
-refused text old new start stop m d f ready e a n =
-    judges_unit text old.env.entries old.units old.place start stop m n d (Some a.reason) (unit_over text old (Got (AUnit start stop d) m) ready e) a.refused
-    ∙ ap (ended old.env.entries old.units old.place) (sym a.fault)
-    ∙ ap (λ s. ended s.env.entries s.units s.place (blame_in f)) (sym a.same)
 
 -- a state after an accepted unit
 pub ready_more : (text : List ℕ) (old new : State) (stop : ℕ) (d : Declaration) → IsReady text old → IsKnownEntry old.env.entries d → old.place < stop → IsCharBoundary text stop → Accepts old new stop d → IsReady text new

@@ -1,11 +1,12 @@
 -- A run of a script from the empty state, and what it writes.
-use Rattle.std.specs.Prelude.{ℕ, zero, suc, ◌+◌, ◌-◌, Bool, true, false, if◌then◌else◌, List, [], ◌∷◌, ◌++◌, length, Option, Some, None, nat_lt}
+use Rattle.std.specs.Prelude.{ℕ, zero, suc, ◌+◌, Bool, true, false, if◌then◌else◌, List, [], ◌∷◌, ◌++◌, length, Option, Some, None, nat_lt}
 use Rattle.std.specs.Str.{is_utf8}
 use Rattle.mt_term.specs.Trees.{Bytes}
 use Rattle.mt_term.specs.Declarations.{Declaration, Axiom, Definition, Reason, Syntax, NotHere, KernelRefused, number_of}
 use Rattle.mt_term.specs.Declarations.{Spent as AllowanceSpent}
 use Rattle.mt_term.specs.Charges.{Outcome, Done, Refused, Spent}
 use Rattle.mt_term.specs.Reduction.{check, check_type}
+use Rattle.mt_kernel.specs.Answers.{charge_of}
 use Rattle.mt_session.specs.declared.serving.Status.{Status}
 use Rattle.mt_session.specs.declared.serving.Status.TheVariants.{Done as RunDone, Refused as RunRefused, BadFrame}
 use Rattle.mt_session.specs.Units.{Reading, Got, Lacks, Item, AUnit, AtEnd, unit, names_of}
@@ -65,18 +66,12 @@ run_from text (suc n) es units place =
 unfoldable pub run : Bytes → Run
 run text = run_from text (suc (length text)) [] 0 0
 
--- what a judged unit costs
-abbrev pub cost_of : Outcome (Unit {0}) → ℕ
-cost_of (Done a left) = allowance - left
-cost_of (Refused r left) = allowance - left
-cost_of Spent = allowance
-
 -- what at most n more units cost together, with the one that is refused
 abbrev pub cost_from : Bytes → ℕ → List Declaration → ℕ → ℕ
 cost_from text zero es place = 0
 cost_from text (suc n) es place =
     after_reading (unit (names_of es) text place) (λ at. 0) 0
-    (λ start stop entry. cost_of (kernel es entry) + judged (refusal_of (kernel es entry)) (λ r. 0)
+    (λ start stop entry. charge_of allowance (kernel es entry) + judged (refusal_of (kernel es entry)) (λ r. 0)
     (cost_from text n (es ++ entry ∷ []) stop))
 
 unfoldable pub cost : Bytes → ℕ

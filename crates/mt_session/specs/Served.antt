@@ -16,6 +16,12 @@ IsCut WriteFault = Unit {0}
 IsCut OutOfMemory = Unit {0}
 IsCut _ = ⊥
 
+-- no unit was tried
+abbrev pub IsUnread : Status → Type 0
+IsUnread Usage = Unit {0}
+IsUnread ReadFault = Unit {0}
+IsUnread _ = ⊥
+
 -- an ending after the input was read
 abbrev pub IsAnswer : Status → Type 0
 IsAnswer Usage = ⊥

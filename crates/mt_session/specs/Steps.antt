@@ -13,7 +13,7 @@ use Rattle.mt_session.specs.declared.running.State.{State}
 use Rattle.mt_session.specs.declared.running.Step.{Step}
 use Rattle.mt_session.specs.declared.running.Step.TheVariants.{On, Over}
 use Rattle.mt_session.specs.Units.{name_of, names_of}
-use Rattle.mt_session.specs.Runs.{Run, Blame, run_from, ended, kernel, refusal_of}
+use Rattle.mt_session.specs.Runs.{Run, Blame, run_from, cost_from, ended, kernel, refusal_of}
 
 -- what refuses a unit by the kernel's answer, if anything does
 abbrev pub refusal_by : Answer → Option Reason
@@ -78,3 +78,12 @@ pub record IsOver (text : Bytes) (old new : State) (f : Option Fault) : Type 0 w
 abbrev pub StepIs : Bytes → State → State → Step → Type 0
 StepIs text old new On = GoesOn text old new
 StepIs text old new (Over f) = IsOver text old new f
+
+-- what at most n more units cost from a state
+abbrev pub cost_on : Bytes → ℕ → State → ℕ
+cost_on text n s = cost_from text n s.env.entries s.place
+
+-- the count of steps before and after a unit
+abbrev pub CostIs : Bytes → State → State → ℕ → ℕ → Step → Type 0
+CostIs text old new before now On = (n : ℕ) → before + cost_on text (suc n) old ≡ now + cost_on text n new
+CostIs text old new before now (Over f) = (n : ℕ) → before + cost_on text (suc n) old ≡ now

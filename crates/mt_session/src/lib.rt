@@ -10,3 +10,6 @@ mod serving;
 mod tokens;
 
 pub use serving::{Status, serve};
+
+#[cfg(test)]
+mod tests;

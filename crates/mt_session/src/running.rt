@@ -1,11 +1,11 @@
 // A run of a script.
-ghost use Rattle.std.specs.Prelude.{◌≡◌, ◌<◌, ◌≤◌, ◌++◌, None, [], length, IfOk, OnOk};
+ghost use Rattle.std.specs.Prelude.{◌≡◌, ◌<◌, ◌≤◌, ◌++◌, ◌+◌, ℕ, suc, None, [], length, IfOk, OnOk, OnErr};
 ghost use Rattle.mt_term.specs.EntryOf.{declaration_of};
 ghost use Rattle.mt_term.specs.FirstTerms.{IsPlainEnv, IsKnownEntry};
-ghost use Rattle.mt_kernel.specs.Answers.{answer_of, verdict_of};
-ghost use Rattle.mt_session.specs.Runs.{kernel, refusal_of, ended, run, run_text, is_clean, reply};
+ghost use Rattle.mt_kernel.specs.Answers.{answer_of, verdict_of, charge_of};
+ghost use Rattle.mt_session.specs.Runs.{kernel, refusal_of, ended, run, run_text, cost, is_clean, reply};
 ghost use Rattle.mt_session.specs.Units.{find, name_of};
-ghost use Rattle.mt_session.specs.Steps.{Accepts, IsReady, IsPlacedFault, JudgesEntry, StepIs, blame_in, reason_in, refusal_by};
+ghost use Rattle.mt_session.specs.Steps.{Accepts, CostIs, IsReady, IsPlacedFault, JudgesEntry, StepIs, blame_in, cost_on, reason_in, refusal_by};
 
 use crate::columns::column;
 use crate::lookup::Table;
@@ -50,6 +50,8 @@ pub fn run_script<L: Ledger>(
 ) -> Result<Report, OutOfMemory>
     ensures text { IfOk result (λ r. r.text.items ≡ run_text text.now (run text.now)) }
     ensures clean { IfOk result (λ r. r.clean ≡ is_clean (run text.now).fault) }
+    ensures cost { OnOk result (steps.new ≡ steps.old + cost text.now) }
+    ensures wanting { OnErr result (steps.new ≤ steps.old + cost text.now) }
 {
     let mut state = State {
         env: PlainEnv {
@@ -79,6 +81,8 @@ fn advance<L: Ledger>(
     ensures run { IfOk result (λ f. run text.now ≡ ended state.new.env.entries state.new.units state.new.place (blame_in f)) }
     ensures placed { IfOk result (λ f. IsPlacedFault text.now f) }
     ensures env { OnOk result (IsPlainEnv state.new.env.entries) }
+    ensures cost { OnOk result (steps.new ≡ steps.old + cost text.now) }
+    ensures wanting { OnErr result (steps.new ≤ steps.old + cost text.now) }
 {
     'units: loop {
         match take_unit(alloc, text, state, steps)? {
@@ -98,6 +102,8 @@ fn take_unit<L: Ledger>(
     requires { IsReady text.now state.old }
     ensures step { IfOk result (λ s. StepIs text.now state.old state.new s) }
     ensures ready { OnOk result (IsReady text.now state.new) }
+    ensures cost { IfOk result (λ s. CostIs text.now state.old state.new steps.old steps.new s) }
+    ensures wanting { OnErr result ((n : ℕ) → steps.new ≤ steps.old + cost_on text.now (suc n) state.old) }
 {
     match unit_at(alloc, &state.known, text.as_bytes(), state.place) {
         Ok(Parsed::End) => Ok(Step::Over(None)),
@@ -125,7 +131,9 @@ fn take_entry<L: Ledger>(
     requires entry { IsKnownEntry state.old.env.entries (declaration_of entry) }
     requires fresh { find state.old.known (name_of (declaration_of entry)) ≡ None }
     requires room { state.old.units < end }
-    ensures { IfOk result (λ s. JudgesEntry state.old state.new start end (declaration_of entry) s) }
+    ensures judges { IfOk result (λ s. JudgesEntry state.old state.new start end (declaration_of entry) s) }
+    ensures cost { OnOk result (steps.new ≡ steps.old + charge_of 100000 (kernel state.old.env.entries (declaration_of entry))) }
+    ensures wanting { OnErr result (steps.new ≤ steps.old + charge_of 100000 (kernel state.old.env.entries (declaration_of entry))) }
 {
     match judge(alloc, &state.env, &entry, steps)? {
         None => {
@@ -160,7 +168,9 @@ fn judge<L: Ledger>(
 ) -> Result<Option<Refusal>, OutOfMemory>
     requires env { IsPlainEnv env.now.entries }
     requires entry { IsKnownEntry env.now.entries (declaration_of entry.now) }
-    ensures { IfOk result (λ r. reason_in r ≡ refusal_of (kernel env.now.entries (declaration_of entry.now))) }
+    ensures refusal { IfOk result (λ r. reason_in r ≡ refusal_of (kernel env.now.entries (declaration_of entry.now))) }
+    ensures cost { OnOk result (steps.new ≡ steps.old + charge_of 100000 (kernel env.now.entries (declaration_of entry.now))) }
+    ensures wanting { OnErr result (steps.new ≤ steps.old + charge_of 100000 (kernel env.now.entries (declaration_of entry.now))) }
 {
     let verdict = verdict_on(alloc, env, entry, steps)?;
     Ok(refusal_by(&verdict))
@@ -174,7 +184,9 @@ fn verdict_on<L: Ledger>(
 ) -> Result<Verdict, OutOfMemory>
     requires env { IsPlainEnv env.now.entries }
     requires entry { IsKnownEntry env.now.entries (declaration_of entry.now) }
-    ensures { IfOk result (λ v. answer_of v ≡ verdict_of 100000 (kernel env.now.entries (declaration_of entry.now))) }
+    ensures verdict { IfOk result (λ v. answer_of v ≡ verdict_of 100000 (kernel env.now.entries (declaration_of entry.now))) }
+    ensures cost { OnOk result (steps.new ≡ steps.old + charge_of 100000 (kernel env.now.entries (declaration_of entry.now))) }
+    ensures wanting { OnErr result (steps.new ≤ steps.old + charge_of 100000 (kernel env.now.entries (declaration_of entry.now))) }
 {
     match entry {
         Entry::Axiom { ty, .. } => check_type(alloc, env, ty, ALLOWANCE, steps),

@@ -6,7 +6,7 @@ ghost use Rattle.mt_text.specs.Causes.{Rose, AppendsPrefix};
 ghost use Rattle.mt_term.specs.FirstTyping.{IsSound};
 ghost use Rattle.mt_session.specs.declared.serving.ReadStop.TheVariants.{OutOfMemory};
 ghost use Rattle.mt_session.specs.Runs.{output_of, status_of, charges_of, run_from, most};
-ghost use Rattle.mt_session.specs.Served.{IsWhole, IsCut, IsAnswer, code_of};
+ghost use Rattle.mt_session.specs.Served.{IsWhole, IsCut, IsUnread, IsAnswer, code_of};
 
 use crate::running::{Report, run_script};
 use mt_term::OutOfMemory;
@@ -71,6 +71,11 @@ pub fn serve<I: Source, O: Sink, L: Ledger>(
         AppendsPrefix (O.got output.old) (O.got output.new) (output_of bytes)) }
     ensures nothing { result ≡ Status.ReadFault → Keeps (O.got output.old) (O.got output.new) }
 
+    // Where the source tells its bytes, a whole run has taken the steps that its units cost, and any other has taken no more.
+    ensures charges { IsWhole result → IfSome (I.left input.old) (λ bytes. steps.new ≡ steps.old + charges_of bytes) }
+    ensures at_most { IfSome (I.left input.old) (λ bytes. steps.new ≤ steps.old + charges_of bytes) }
+    ensures uncharged { IsUnread result → steps.new ≡ steps.old }
+
     // Each state of the run has a sound environment.
     ensures sound { IfSome (I.left input.old) (λ bytes. (n : ℕ) → IsSound (run_from bytes n [] 0 0).entries) }
 
@@ -100,6 +105,8 @@ fn answer<O: Sink, L: Ledger>(
     ensures which { IsAnswer result }
     ensures whole { IsWhole result → (result ≡ status_of script.now) × Appends (O.got output.old) (O.got output.new) (output_of script.now) }
     ensures cut { IsCut result → AppendsPrefix (O.got output.old) (O.got output.new) (output_of script.now) }
+    ensures charges { IsWhole result → steps.new ≡ steps.old + charges_of script.now }
+    ensures at_most { steps.new ≤ steps.old + charges_of script.now }
     ensures write { result ≡ Status.WriteFault → Rose (O.faults output.old) (O.faults output.new) }
 {
     match str::from_utf8(script) {
@@ -119,6 +126,8 @@ fn reported<O: Sink, L: Ledger>(
     ensures which { IsAnswer result }
     ensures whole { IsWhole result → (result ≡ status_of text.now) × Appends (O.got output.old) (O.got output.new) (output_of text.now) }
     ensures cut { IsCut result → AppendsPrefix (O.got output.old) (O.got output.new) (output_of text.now) }
+    ensures charges { IsWhole result → steps.new ≡ steps.old + charges_of text.now }
+    ensures at_most { steps.new ≤ steps.old + charges_of text.now }
     ensures write { result ≡ Status.WriteFault → Rose (O.faults output.old) (O.faults output.new) }
 {
     match run_script(alloc, text, steps) {

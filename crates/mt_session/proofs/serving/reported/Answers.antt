@@ -1,7 +1,7 @@
-use Rattle.std.proofs.Common.{◌∙◌, subst}
+use Rattle.std.proofs.Common.{◌∙◌, subst, arith}
 use Rattle.std.specs.Io.KnownBytes.{Appends}
 use Rattle.mt_text.specs.Causes.{AppendsPrefix}
-use Rattle.mt_session.proofs.Endings.{text_is_script, good_status, good_output}
+use Rattle.mt_session.proofs.Endings.{text_is_script, good_status, good_output, script_charged, script_at_most}
 use Rattle.mt_session.proofs.serving.reported.Goals as goal
 
 pub returns-in-Ok-clause-whole : goal.returns-in-Ok-clause-whole
@@ -15,3 +15,16 @@ returns-in-Ok-clause-cut g c = λ w.
     let yes = text_is_script _ c.utf8.text c.requires in
     let h = c.written.ensures.cut w in
     subst (AppendsPrefix _ _) (good_output _ _ yes c.in-Ok.ensures.text) h.1
+
+pub returns-in-Ok-clause-charges : goal.returns-in-Ok-clause-charges
+returns-in-Ok-clause-charges g c = λ _.
+    let yes = text_is_script _ c.utf8.text c.requires in script_charged _ c.args.steps.now _ yes c.in-Ok.ensures.cost
+
+pub returns-in-Ok-clause-at_most : goal.returns-in-Ok-clause-at_most
+returns-in-Ok-clause-at_most g c =
+    let yes = text_is_script _ c.utf8.text c.requires in
+    script_at_most _ c.args.steps.now _ yes (omega (arith, c.in-Ok.ensures.cost))
+
+pub returns-in-Err-clause-at_most : goal.returns-in-Err-clause-at_most
+returns-in-Err-clause-at_most g c =
+    let yes = text_is_script _ c.utf8.text c.requires in script_at_most _ c.args.steps.now _ yes c.in-Err.ensures.wanting

@@ -1,0 +1,91 @@
+// Whole runs from memory to memory.
+ghost use Rattle.std.specs.Prelude.{◌≡◌, ◌<◌};
+
+use crate::{Status, serve};
+use mt_text::{Ledger, MemorySink, MemorySource, PlainLedger, Sink, Source, Steps};
+use std::alloc::Global;
+use std::sync::ledger::Blank;
+use std::test::Fail;
+
+fn counted<L: Ledger, I: Source, O: Sink>(
+    alloc: Global,
+    words: &[String],
+    input: &mut I,
+    output: &mut O,
+    blank: Blank,
+) -> Status
+    requires name { blank.name ≡ L.name }
+    requires parts { blank.parts ≡ L.parts }
+    requires some { 0 < L.parts }
+{
+    let mut steps = Steps::<L>::new(blank);
+    serve(alloc, words, input, output, &mut steps)
+}
+
+// Serves a script from memory, in pieces, to a sink whose listed writes fail.
+fn served(
+    alloc: Global,
+    words: &[String],
+    script: &[u8],
+    failing: &[u64],
+) -> Result<(Status, MemorySink), Fail> {
+    let mut input = MemorySource::new(script.to_vec(alloc)?, 3, Vec::new(alloc));
+    let mut output = MemorySink::new(alloc, 4096, 7, failing.to_vec(alloc)?)?;
+    let status = counted::<PlainLedger, _, _>(alloc, words, &mut input, &mut output, Blank::new(1));
+    Ok((status, output))
+}
+
+#[test]
+fn each_script_has_its_output_and_status(rt: HostRuntime) -> Result<(), Fail> {
+    let alloc = rt.alloc();
+    let cases: [(&str, Status, &str); 5] = [
+        (
+            "",
+            Status::Done,
+            "ok 0 0\nstate 0 0\nenv 0\nproof none\nend\n",
+        ),
+        (
+            "axiom a : Prop. definition i : Type[1] ≝ Type[0].",
+            Status::Done,
+            "ok 2 51\nstate 2 51\nenv 2\naxiom a : Prop.\ndefinition i : Type[1] ≝ Type[0].\nproof none\nend\n",
+        ),
+        (
+            "definition t : Type[0] ≝ Type[0].",
+            Status::Refused,
+            "no 0 0 22 KernelRefused 0 1\n  reason 7\nstate 0 0\nenv 0\nproof none\nend\n",
+        ),
+        (
+            "axiom a Prop.",
+            Status::Refused,
+            "no 0 0 2 Syntax 8 9\nstate 0 0\nenv 0\nproof none\nend\n",
+        ),
+        (
+            "axiom a : Prop. axiom b : a.\n  axiom a : b.",
+            Status::Refused,
+            "no 2 28 2 Syntax 37 9\nstate 2 28\nenv 2\naxiom a : Prop.\naxiom b : a.\nproof none\nend\n",
+        ),
+    ];
+    for (script, wanted, text) in &cases {
+        let (status, output) = served(alloc, &[], script.as_bytes(), &[])?;
+        assert_eq!(rt; status, *wanted);
+        assert_eq!(rt; output.bytes(), text.as_bytes());
+    }
+    Ok(())
+}
+
+#[test]
+fn other_endings_have_their_status(rt: HostRuntime) -> Result<(), Fail> {
+    let alloc = rt.alloc();
+    let (status, output) = served(alloc, &[], b"axiom \xff", &[])?;
+    assert_eq!(rt; status, Status::BadFrame);
+    assert_eq!(rt; output.bytes().len(), 0);
+    let (status, output) = served(alloc, &[], b"", &[0])?;
+    assert_eq!(rt; status, Status::WriteFault);
+    assert_eq!(rt; status.code(), 6);
+    assert_eq!(rt; output.bytes().len(), 0);
+    let word = String::from_str(alloc, "run")?;
+    let (status, output) = served(alloc, &[word], b"", &[])?;
+    assert_eq!(rt; status, Status::Usage);
+    assert_eq!(rt; output.bytes().len(), 0);
+    Ok(())
+}
