@@ -1,0 +1,2 @@
+pub mod Tacticals
+pub mod TacticalOf

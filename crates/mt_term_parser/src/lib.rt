@@ -1,0 +1,47 @@
+//! Terms as they are written, and how they are read.
+#![tactic(auto)]
+
+mod building;
+mod raw;
+pub mod readings;
+mod sorts;
+mod terms;
+
+pub use raw::{Arm, Arms, Part, Parts, Raw, RawShape, RawSort, Raws};
+pub use terms::term_at;
+
+#[cfg(test)]
+mod tests {
+    use super::*;
+    use mt_term::Halt;
+    use std::alloc::Global;
+
+    // The end of the term that a text begins with, or the number and the place of its refusal.
+    fn outcome(alloc: Global, text: &str) -> (u8, usize) {
+        match term_at(alloc, text, 0, 0) {
+            Ok((_, end)) => (0, end),
+            Err(Halt::Refused(fault)) => (fault.refusal.number(), fault.at),
+            Err(_) => (23, 0),
+        }
+    }
+
+    #[test]
+    fn terms(rt: HostRuntime) {
+        let cases = [
+            ("λx:A.f x (g ?) … . rest", (0, 19)),
+            (
+                "∀x:(A : Type[0,u+2]).A → match x return P with [ O ⇒ x | S n _ ⇒ n ]",
+                (0, 76),
+            ),
+            ("f %", (0, 1)),
+            ("f (%)", (1, 3)),
+            ("λx A", (2, 4)),
+            ("match x with [", (3, 14)),
+            ("_", (2, 0)),
+            ("f => a", (0, 1)),
+        ];
+        for (text, expected) in cases {
+            assert_eq!(rt; outcome(rt.alloc(), text), expected);
+        }
+    }
+}
