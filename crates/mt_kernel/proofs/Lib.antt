@@ -1,3 +1,7 @@
-pub mod Charging
+pub mod PlainSorts
+pub mod Verdicts
+pub mod Unfolding
+pub mod Apart
+pub mod Applying
+pub mod Inferring
 pub mod Typed
-pub mod Within

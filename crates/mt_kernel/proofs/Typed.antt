@@ -1,35 +1,30 @@
--- A yes of the kernel has a derivation.
-use Rattle.std.proofs.Common.{◌≡◌, ℕ, List, refl, subst}
-use Rattle.mt_term.specs.Trees.{Tree}
-use Rattle.mt_term.specs.Declarations.{Declaration}
-use Rattle.mt_term.specs.Charges.{Outcome, Done}
-use Rattle.mt_term.specs.FirstTerms.{IsPlainEnv, IsKnown}
-use Rattle.mt_term.specs.Reduction.{check, check_type}
-use Rattle.mt_term.specs.FirstTyping.{HasSort, HasType}
-use Rattle.mt_term.proofs.FirstSoundness.{check_gives, check_type_gives}
-use Rattle.mt_kernel.specs.declared.Verdict.{Verdict}
-use Rattle.mt_kernel.specs.declared.Verdict.TheVariants as verdict
-use Rattle.mt_kernel.specs.Answers.{Answer, Yes, IsYes, answer_of, verdict_of}
+-- A yes of the kernel has derivations.
+use Rattle.std.proofs.Common.{◌≡◌, ℕ, inl, inr}
+use Rattle.mt_term.specs.Trees.{Tree, Var, Sort, Prod, Lam, App, Const, Ind, Con, Match, Meta}
+use Rattle.mt_term.specs.declared.universes.Sort.{Sort as AnySort}
+use Rattle.mt_term.specs.Declarations.{Environment}
+use Rattle.mt_term.specs.Charges.{Done}
+use Rattle.mt_term.specs.KernelCheck.{check, check_type}
+use Rattle.mt_term.specs.Stores.{Mentions}
+use Rattle.mt_term.proofs.ReductionTheorems.{check_law, type_check_law}
+use Rattle.mt_kernel.specs.Derived.{IsTypeDerived, IsTermDerived}
+use Rattle.mt_kernel.specs.Plain.{IsPlain}
 
--- an answer of yes
-abbrev SaysYes : Answer → Type 0
-SaysYes (Yes cost) = Unit {0}
-SaysYes _ = ⊥
+-- no metavariable stands in a plain term
+plain_free : (t : Tree) → IsPlain t → (m : ℕ) → Mentions m t → ⊥
+plain_free (Var i) p m h = h
+plain_free (Sort s) p m h = h
+plain_free (Prod x a b) p m h = elim h [ inl g ↦ plain_free a p.0 m g | inr g ↦ plain_free b p.1 m g ]
+plain_free (Lam x a b) p m h = elim h [ inl g ↦ plain_free a p.0 m g | inr g ↦ plain_free b p.1 m g ]
+plain_free (App f a) p m h = elim h [ inl g ↦ plain_free f p.0 m g | inr g ↦ plain_free a p.1 m g ]
+plain_free (Const c) p m h = h
+plain_free (Ind e) p m h = p
+plain_free (Con e k) p m h = p
+plain_free (Match e r c bs) p m h = p
+plain_free (Meta n s) p m h = p
 
-says : (v : Verdict) → IsYes v → SaysYes (answer_of v)
-says (verdict.Yes cost) y = tt
-says _ y = absurd y
+pub term_derived : (E : Environment) (t T : Tree) (a left : ℕ) (x : Unit {0}) → IsPlain t → IsPlain T → check E t T a ≡ Done x left → IsTermDerived E t T
+term_derived E t T a left x h k c = λ sound. check_law E sound t T x a left (plain_free t h) (plain_free T k) c
 
-by_outcome : (es : List Declaration) (t T : Tree) (a : ℕ) (o : Outcome (Unit {0})) → check es t T a ≡ o → IsPlainEnv es → IsKnown es t → IsKnown es T → SaysYes (verdict_of a o) → HasSort es T × HasType es t T
-by_outcome es t T a (Done x left) c p h k y = check_gives es t T a left x p h k c
-by_outcome es t T a _ c p h k y = absurd y
-
-pub yes_typed : (es : List Declaration) (t T : Tree) (a : ℕ) (v : Verdict) → IsPlainEnv es → IsKnown es t → IsKnown es T → answer_of v ≡ verdict_of a (check es t T a) → IsYes v → HasSort es T × HasType es t T
-yes_typed es t T a v p h k e y = by_outcome es t T a (check es t T a) refl p h k (subst SaysYes e (says v y))
-
-type_by_outcome : (es : List Declaration) (T : Tree) (a : ℕ) (o : Outcome (Unit {0})) → check_type es T a ≡ o → IsKnown es T → SaysYes (verdict_of a o) → HasSort es T
-type_by_outcome es T a (Done x left) c k y = check_type_gives es T a left x k c
-type_by_outcome es T a _ c k y = absurd y
-
-pub yes_sort : (es : List Declaration) (T : Tree) (a : ℕ) (v : Verdict) → IsKnown es T → answer_of v ≡ verdict_of a (check_type es T a) → IsYes v → HasSort es T
-yes_sort es T a v k e y = type_by_outcome es T a (check_type es T a) refl k (subst SaysYes e (says v y))
+pub type_derived : (E : Environment) (T : Tree) (a left : ℕ) (s : AnySort) → IsPlain T → check_type E T a ≡ Done s left → IsTypeDerived E T
+type_derived E T a left s k c = λ sound. (s, type_check_law E sound T s a left (plain_free T k) c)

@@ -1,58 +1,126 @@
-// Whether a type is at most another.
-ghost use Rattle.std.specs.Prelude.{◌≡◌, ◌+◌, ◌≤◌};
+// The comparison of two terms.
+ghost use Rattle.std.specs.Prelude.{◌≡◌, ◌+◌, []};
 ghost use Rattle.mt_kernel.specs.Answers.{Answers};
-ghost use Rattle.mt_term.specs.Reduction.{alike, at_most, heads_at_most};
+ghost use Rattle.mt_kernel.specs.EnvironmentOf.{environment_of};
+ghost use Rattle.mt_term.specs.Comparison.{convert, heads, spines};
+ghost use Rattle.mt_term.specs.Stores.{no_store};
 ghost use Rattle.mt_term.specs.TreeOf.{tree_of};
 
-use crate::reduction::{charge, whd};
-use mt_term::{Entries, Sort, Stop, Term};
+use crate::charges::charge;
+use crate::reduction::whd;
+use crate::sorts::sorts_fit;
+use mt_term::{Mode, PlainEnv, Stop, Term, alike, copy, deeper};
 use mt_text::{Ledger, Steps};
+use std::alloc::Global;
 
-/// Whether `t` is at most `u`: they are alike, or their weak heads are in that order.
-pub fn at_most<L: Ledger>(
-    es: &Entries,
+/// Whether the two are convertible in the mode. Of calls one inside the other it makes at most `deep`.
+#[cycle(convert)]
+#[tactic(auto, using(mt_term::proofs::ComparisonRules::convert_rules))]
+pub fn convert<L: Ledger>(
+    alloc: Global,
+    env: &PlainEnv,
+    mode: Mode,
     t: &Term,
     u: &Term,
     left: &mut u64,
+    deep: usize,
     steps: &mut Steps<L>,
 ) -> Result<bool, Stop>
-    ensures answer { Answers (λ b. b) (at_most es.now (tree_of t.now) (tree_of u.now) left.old) left.new result }
-    ensures charges { steps.new + left.new ≡ steps.old + left.old }
-    ensures falls { left.new ≤ left.old }
+    requires below { env.now.below ≡ [] }
+    ensures answer { Answers (λ b. b) (convert (environment_of env.now) no_store mode (tree_of t.now) (tree_of u.now) left.old) left.new result }
+    ensures cost { steps.new + left.new ≡ steps.old + left.old }
 {
+    let _left = *left;
+    let deep = deeper(deep)?;
     charge(left, steps)?;
     if alike(t, u) {
         return Ok(true);
     }
-    let head = whd(es, t, left, steps)?;
-    let other = whd(es, u, left, steps)?;
-    Ok(heads_at_most(head, other))
+    let head = whd(alloc, env, copy(alloc, t)?, left, deep, steps)?;
+    let other = whd(alloc, env, copy(alloc, u)?, left, deep, steps)?;
+    same_heads(alloc, env, mode, &head, &other, left, deep, steps)
 }
 
-fn alike(t: &Term, u: &Term) -> bool
-    ensures { result ≡ alike (tree_of t.now) (tree_of u.now) }
+/// Whether two weak heads are convertible.
+#[cycle(convert)]
+#[tactic(auto, using(mt_term::proofs::ComparisonRules::heads_rules, mt_term::proofs::ComparisonApart::apart_rules))]
+fn same_heads<L: Ledger>(
+    alloc: Global,
+    env: &PlainEnv,
+    mode: Mode,
+    t: &Term,
+    u: &Term,
+    left: &mut u64,
+    deep: usize,
+    steps: &mut Steps<L>,
+) -> Result<bool, Stop>
+    requires below { env.now.below ≡ [] }
+    ensures answer { Answers (λ b. b) (heads (environment_of env.now) no_store mode (tree_of t.now) (tree_of u.now) left.old) left.new result }
+    ensures cost { steps.new + left.new ≡ steps.old + left.old }
 {
+    let _left = *left;
+    let deep = deeper(deep)?;
     match (t, u) {
-        (Term::Sort(s), Term::Sort(r)) => match (s, r) {
-            (Sort::Prop, Sort::Prop) => true,
-            (Sort::Typ(a), Sort::Typ(b)) => a.base == b.base,
-            _ => false,
-        },
-        (Term::Const(n), Term::Const(m)) => n == m,
-        _ => false,
+        (Term::Sort(s), Term::Sort(r)) => Ok(sorts_fit(mode, s, r)?),
+        (Term::Prod(_, a, b), Term::Prod(_, c, d)) => {
+            if !convert(alloc, env, Mode::Equal, a, c, left, deep, steps)? {
+                return Ok(false);
+            }
+            convert(alloc, env, mode, b, d, left, deep, steps)
+        }
+        (Term::Lam(_, a, b), Term::Lam(_, c, d)) => {
+            if !convert(alloc, env, Mode::Equal, a, c, left, deep, steps)? {
+                return Ok(false);
+            }
+            convert(alloc, env, Mode::Equal, b, d, left, deep, steps)
+        }
+        (Term::Sort(_), _) => Ok(false),
+        (Term::Prod(..), _) => Ok(false),
+        (Term::Lam(..), _) => Ok(false),
+        _ => same_spine(alloc, env, t, u, left, deep, steps),
     }
 }
 
-fn heads_at_most(t: &Term, u: &Term) -> bool
-    ensures { result ≡ heads_at_most (tree_of t.now) (tree_of u.now) }
+/// Whether two heads on arguments are the same head on convertible arguments.
+#[cycle(convert)]
+#[tactic(auto, using(crate::proofs::Apart::spine_rules))]
+fn same_spine<L: Ledger>(
+    alloc: Global,
+    env: &PlainEnv,
+    t: &Term,
+    u: &Term,
+    left: &mut u64,
+    deep: usize,
+    steps: &mut Steps<L>,
+) -> Result<bool, Stop>
+    requires below { env.now.below ≡ [] }
+    ensures answer { Answers (λ b. b) (spines (environment_of env.now) no_store (tree_of t.now) (tree_of u.now) left.old) left.new result }
+    ensures cost { steps.new + left.new ≡ steps.old + left.old }
 {
+    let _left = *left;
+    let deep = deeper(deep)?;
     match (t, u) {
-        (Term::Sort(s), Term::Sort(r)) => match (s, r) {
-            (Sort::Prop, _) => true,
-            (Sort::Typ(a), Sort::Typ(b)) => a.base <= b.base,
-            _ => false,
-        },
-        (Term::Const(n), Term::Const(m)) => n == m,
-        _ => false,
+        (Term::Var(i), Term::Var(j)) => Ok(*i == *j),
+        (Term::Const(c), Term::Const(d)) => Ok(*c == *d),
+        (Term::Ind(e), Term::Ind(d)) => Ok(*e == *d),
+        (Term::Con(e, k), Term::Con(d, j)) => Ok(*e == *d && *k == *j),
+        (Term::App(f, a), Term::App(g, b)) => {
+            if !same_spine(alloc, env, f, g, left, deep, steps)? {
+                return Ok(false);
+            }
+            convert(alloc, env, Mode::Equal, a, b, left, deep, steps)
+        }
+        (Term::Meta(..), Term::Meta(..)) => Err(Stop::OutOfMemory),
+        (Term::Match(..), Term::Match(..)) => Err(Stop::OutOfMemory),
+        (Term::Var(_), _) => Ok(false),
+        (Term::Const(_), _) => Ok(false),
+        (Term::Ind(_), _) => Ok(false),
+        (Term::Con(..), _) => Ok(false),
+        (Term::App(..), _) => Ok(false),
+        (Term::Meta(..), _) => Ok(false),
+        (Term::Match(..), _) => Ok(false),
+        (Term::Sort(_), _) => Ok(false),
+        (Term::Prod(..), _) => Ok(false),
+        (Term::Lam(..), _) => Ok(false),
     }
 }

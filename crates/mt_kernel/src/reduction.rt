@@ -1,54 +1,68 @@
 // Weak heads, and what each of their steps costs.
-ghost use Rattle.std.specs.Prelude.{◌≡◌, ◌+◌, ◌≤◌, None, Some, OnErr, OnOk, MatchOption};
+ghost use Rattle.std.specs.Prelude.{◌≡◌, ◌+◌, Some};
 ghost use Rattle.mt_kernel.specs.Answers.{Answers};
-ghost use Rattle.mt_term.specs.Reduction.{step, whd};
+ghost use Rattle.mt_kernel.specs.Arguments.{args_of, tree_in};
+ghost use Rattle.mt_kernel.specs.EnvironmentOf.{environment_of};
+ghost use Rattle.mt_term.specs.Stores.{no_store};
 ghost use Rattle.mt_term.specs.TreeOf.{tree_of};
+ghost use Rattle.mt_term.specs.WeakHead.{look, whd};
 
-use mt_term::{Entries, Entry, Stop, Term};
+use crate::arguments::{Args, apply, beta};
+use crate::charges::charge;
+use mt_term::{Entry, PlainEnv, Stop, Term, copy, deeper};
 use mt_text::{Ledger, Steps};
+use std::alloc::Global;
 
-/// The weak head: definitions are unfolded, each for one charge.
-pub fn whd<'a, L: Ledger>(
-    es: &'a Entries,
-    t: &'a Term,
+/// The weak head. Of calls one inside the other it makes at most `deep`.
+#[tactic(auto, using(mt_term::proofs::WeakHeadRules::whd_rules))]
+pub fn whd<L: Ledger>(
+    alloc: Global,
+    env: &PlainEnv,
+    t: Term,
     left: &mut u64,
+    deep: usize,
     steps: &mut Steps<L>,
-) -> Result<&'a Term, Stop>
-    ensures answer { Answers (λ u. tree_of u.now) (whd es.now (tree_of t.now) left.old) left.new result }
-    ensures charges { steps.new + left.new ≡ steps.old + left.old }
-    ensures falls { left.new ≤ left.old }
+) -> Result<Term, Stop>
+    ensures answer { Answers tree_of (whd (environment_of env.now) no_store (tree_of t) left.old) left.new result }
+    ensures cost { steps.new + left.new ≡ steps.old + left.old }
 {
+    let deep = deeper(deep)?;
     let mut head = t;
-    while let Some(body) = step(es, head) {
+    while let Some(next) = look(alloc, env, &head, &Args::End, left, deep, steps)? {
         charge(left, steps)?;
-        head = body;
+        head = next;
     }
     Ok(head)
 }
 
-fn step<'a>(es: &'a Entries, t: &Term) -> Option<&'a Term>
-    ensures { MatchOption result (step es.now (tree_of t.now) ≡ None)
-        (λ u. step es.now (tree_of t.now) ≡ Some (tree_of u.now)) }
+/// What the term on the arguments becomes by a step, where there is one; the step's own charge is not paid.
+#[tactic(auto, using(crate::proofs::Unfolding::unfolding_rules))]
+fn look<L: Ledger>(
+    alloc: Global,
+    env: &PlainEnv,
+    t: &Term,
+    args: &Args<'_>,
+    left: &mut u64,
+    deep: usize,
+    steps: &mut Steps<L>,
+) -> Result<Option<Term>, Stop>
+    ensures answer { Answers tree_in (look (environment_of env.now) no_store (tree_of t.now) (args_of args.now) left.old) left.new result }
+    ensures cost { steps.new + left.new ≡ steps.old + left.old }
 {
+    let deep = deeper(deep)?;
+    let _left = *left;
     match t {
-        Term::Const(n) => match es.get(*n) {
-            Some(Entry::Definition { body, .. }) => Some(body),
-            _ => None,
+        Term::App(f, a) => look(alloc, env, &*f, &Args::More(&*a, &*args), left, deep, steps),
+        Term::Lam(_, _, body) => Ok(beta(alloc, body, args)?),
+        Term::Const(n) => match env.entries.get(*n) {
+            Some(Entry::Definition { body, .. }) => {
+                let head = copy(alloc, body)?;
+                Ok(Some(apply(alloc, head, args)?))
+            }
+            Some(Entry::Recursive { .. }) => Err(Stop::OutOfMemory),
+            None | Some(Entry::Axiom { .. }) | Some(Entry::Inductive { .. }) => Ok(None),
         },
-        _ => None,
+        Term::Match(..) => Err(Stop::OutOfMemory),
+        _ => Ok(None),
     }
-}
-
-/// Takes one charge and counts one step.
-pub fn charge<L: Ledger>(left: &mut u64, steps: &mut Steps<L>) -> Result<(), Stop>
-    ensures ok { OnOk result ((left.old ≡ left.new + 1) × (steps.new ≡ steps.old + 1)) }
-    ensures err { OnErr result ((left.old ≡ 0) × (left.new ≡ 0) × (steps.new ≡ steps.old)
-        × (result ≡ Err Stop.Spent)) }
-{
-    if *left == 0 {
-        return Err(Stop::Spent);
-    }
-    *left -= 1;
-    steps.tick();
-    Ok(())
 }

@@ -2,6 +2,7 @@ pub mod Scanning
 pub mod Places
 pub mod Printed
 pub mod Reading
+pub mod Checking
 pub mod Stepping
 pub mod Costs
 pub mod Endings

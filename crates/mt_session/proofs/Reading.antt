@@ -3,7 +3,7 @@ use Rattle.std.proofs.Common.{◌≡◌, ◌<◌, ℕ, suc, ◌+◌, Bool, true,
 use Rattle.std.specs.Prelude.{if◌then◌else◌, bytes_eq, codes}
 use Rattle.mt_term.specs.Trees.{Tree, Bytes, Const}
 use Rattle.mt_term.specs.Declarations.{Declaration, Axiom, Definition}
-use Rattle.mt_term.specs.FirstTerms.{prop, type_at, IsKnown, IsKnownEntry}
+use Rattle.mt_session.specs.Known.{prop, type_at, IsKnown, IsKnownEntry}
 use Rattle.mt_session.specs.declared.tokens.Sign.TheVariants.{Dot, Open, Close, Becomes}
 use Rattle.mt_session.specs.declared.tokens.Sign.{Sign}
 use Rattle.mt_session.specs.declared.tokens.Kind.{Kind}

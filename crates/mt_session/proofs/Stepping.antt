@@ -5,7 +5,7 @@ use Rattle.std.specs.Str.{IsUtf8, IsCharBoundary}
 use Rattle.std.proofs.lemmas.Str.{IsCharBoundary-start}
 use Rattle.mt_term.specs.Trees.{Tree, Const, Sort}
 use Rattle.mt_term.specs.Declarations.{Declaration, Axiom, Definition}
-use Rattle.mt_term.specs.FirstTerms.{IsPlainEnv, IsKnown, IsKnownEntry}
+use Rattle.mt_session.specs.Known.{IsPlainEnv, IsKnown, IsKnownEntry}
 use Rattle.mt_term.specs.Charges.{Outcome, Done, Refused, Spent}
 use Rattle.mt_term.specs.declared.refusals.Fault.{Fault}
 use Rattle.mt_kernel.specs.Answers.{verdict_of}
@@ -64,6 +64,8 @@ unit_over text s r ready e = ap (λ xs. unit xs text s.place) (sym ready.known) 
 pub ready_more : (text : List ℕ) (old new : State) (stop : ℕ) (d : Declaration) → IsReady text old → IsKnownEntry old.env.entries d → old.place < stop → IsCharBoundary text stop → Accepts old new stop d → IsReady text new
 ready_more text old new stop d ready known past at a = record {
   env = subst IsPlainEnv (sym a.entries) (plain_more old.env.entries d ready.env known);
+  names = a.names ∙ ready.names;
+  below = a.below ∙ ready.below;
   known = a.known ∙ ap (λ xs. xs ++ name_of d ∷ []) ready.known ∙ sym (names_more old.env.entries d) ∙ ap names_of (sym a.entries);
   count = omega (arith, a.units, a.place, ready.count, past);
   place = subst (IsCharBoundary text) (sym a.place) at;
@@ -96,9 +98,11 @@ is_over text old new f ready over e =
     sym e ∙ ap (λ k. run_on text k old) before ∙ over.same n
 
 -- the empty state
-pub ready_first : (text : List ℕ) (s : State) → IsUtf8 text → s.env.entries ≡ [] → s.known ≡ [] → s.units ≡ 0 → s.place ≡ 0 → IsReady text s
-ready_first text s u none known units place = record {
+pub ready_first : (text : List ℕ) (s : State) → IsUtf8 text → s.env.entries ≡ [] → s.env.names ≡ [] → s.env.below ≡ [] → s.known ≡ [] → s.units ≡ 0 → s.place ≡ 0 → IsReady text s
+ready_first text s u none names below known units place = record {
   env = subst IsPlainEnv (sym none) plain_nil;
+  names = names;
+  below = below;
   known = known ∙ ap names_of (sym none);
   count = omega arith;
   place = subst (IsCharBoundary text) (sym place) (IsCharBoundary-start text u);

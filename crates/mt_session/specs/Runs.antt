@@ -5,11 +5,12 @@ use Rattle.mt_term.specs.Trees.{Bytes}
 use Rattle.mt_term.specs.Declarations.{Declaration, Axiom, Definition, Reason, Syntax, NotHere, KernelRefused, number_of}
 use Rattle.mt_term.specs.Declarations.{Spent as AllowanceSpent}
 use Rattle.mt_term.specs.Charges.{Outcome, Done, Refused, Spent}
-use Rattle.mt_term.specs.Reduction.{check, check_type}
+use Rattle.mt_term.specs.KernelCheck.{check, check_type}
 use Rattle.mt_kernel.specs.Answers.{charge_of}
 use Rattle.mt_session.specs.declared.serving.Status.{Status}
 use Rattle.mt_session.specs.declared.serving.Status.TheVariants.{Done as RunDone, Refused as RunRefused, BadFrame}
 use Rattle.mt_session.specs.Units.{Reading, Got, Lacks, Item, AUnit, AtEnd, unit, names_of}
+use Rattle.mt_session.specs.Known.{alone}
 use Rattle.mt_session.specs.Columns.{column_of}
 use Rattle.mt_session.specs.Output.{ok_text, no_text, state_text}
 
@@ -17,10 +18,16 @@ use Rattle.mt_session.specs.Output.{ok_text, no_text, state_text}
 abbrev pub allowance : ℕ
 allowance = 100000
 
+-- an outcome without its answer
+abbrev pub passed : {A : Type 0} → Outcome A → Outcome (Unit {0})
+passed (Done a left) = Done tt left
+passed (Refused r left) = Refused r left
+passed Spent = Spent
+
 -- the kernel on an entry, over the entries before it
 abbrev pub kernel : List Declaration → Declaration → Outcome (Unit {0})
-kernel es (Axiom x T) = check_type es T allowance
-kernel es (Definition x T b) = check es b T allowance
+kernel es (Axiom x T) = passed (check_type (alone es) T allowance)
+kernel es (Definition x T b) = check (alone es) b T allowance
 kernel es _ = Refused NotHere allowance
 
 -- what refuses a unit, if anything does

@@ -4,7 +4,7 @@ use Rattle.std.specs.Str.{IsCharBoundary}
 use Rattle.mt_term.specs.Trees.{Bytes}
 use Rattle.mt_term.specs.Declarations.{Declaration, Reason, KernelRefused, number_of}
 use Rattle.mt_term.specs.Declarations.{Spent as AllowanceSpent}
-use Rattle.mt_term.specs.FirstTerms.{IsPlainEnv}
+use Rattle.mt_session.specs.Known.{IsPlainEnv}
 use Rattle.mt_term.specs.ReasonOf.{reason_of}
 use Rattle.mt_term.specs.declared.refusals.Refusal.{Refusal}
 use Rattle.mt_term.specs.declared.refusals.Fault.{Fault}
@@ -37,6 +37,8 @@ IsPlacedFault text (Some f) = IsCharBoundary text f.at
 -- a state from which units can be taken
 pub record IsReady (text : Bytes) (s : State) : Type 0 where
   pub env : IsPlainEnv s.env.entries
+  pub names : s.env.names ≡ []
+  pub below : s.env.below ≡ []
   pub known : s.known ≡ names_of s.env.entries
   pub count : s.units ≤ s.place
   pub place : IsCharBoundary text s.place
@@ -45,6 +47,8 @@ pub record IsReady (text : Bytes) (s : State) : Type 0 where
 pub record Accepts (old new : State) (stop : ℕ) (d : Declaration) : Type 0 where
   pub passed : refusal_of (kernel old.env.entries d) ≡ None
   pub entries : new.env.entries ≡ old.env.entries ++ d ∷ []
+  pub names : new.env.names ≡ old.env.names
+  pub below : new.env.below ≡ old.env.below
   pub known : new.known ≡ old.known ++ name_of d ∷ []
   pub units : new.units ≡ old.units + 1
   pub place : new.place ≡ stop

@@ -16,7 +16,7 @@ use Rattle.mt_term.specs.TreeOf.{tree_of}
 use Rattle.mt_term.specs.EntryOf.{declaration_of}
 use Rattle.mt_term.specs.declared.terms.Term.{Term}
 use Rattle.mt_term.specs.declared.entries.Entry.{Entry}
-use Rattle.mt_term.specs.FirstTerms.{prop, type_at}
+use Rattle.mt_session.specs.Known.{prop, type_at}
 use Rattle.mt_session.specs.Tokens.{next_token}
 
 -- a part that is read, and its end; or the place of the token that cannot stand there

@@ -1,7 +1,7 @@
 // The text of replies and states.
 ghost use Rattle.std.specs.Prelude.{◌≡◌, ◌++◌, ◌<◌, length, slice_get, OnOk};
 ghost use Rattle.std.specs.Fmt.{decimal};
-ghost use Rattle.mt_term.specs.FirstTerms.{IsKnown, IsKnownEntry, IsPlainEnv};
+ghost use Rattle.mt_session.specs.Known.{IsKnown, IsKnownEntry, IsPlainEnv};
 ghost use Rattle.mt_term.specs.TreeOf.{tree_of};
 ghost use Rattle.mt_term.specs.EntryOf.{declaration_of};
 ghost use Rattle.mt_term.specs.ReasonOf.{reason_of};

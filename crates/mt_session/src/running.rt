@@ -1,7 +1,7 @@
 // A run of a script.
 ghost use Rattle.std.specs.Prelude.{◌≡◌, ◌<◌, ◌≤◌, ◌++◌, ◌+◌, ℕ, suc, None, [], length, IfOk, OnOk, OnErr};
 ghost use Rattle.mt_term.specs.EntryOf.{declaration_of};
-ghost use Rattle.mt_term.specs.FirstTerms.{IsPlainEnv, IsKnownEntry};
+ghost use Rattle.mt_session.specs.Known.{IsPlainEnv, IsKnownEntry};
 ghost use Rattle.mt_kernel.specs.Answers.{answer_of, verdict_of, charge_of};
 ghost use Rattle.mt_session.specs.Runs.{kernel, refusal_of, ended, run, run_text, cost, is_clean, reply};
 ghost use Rattle.mt_session.specs.Units.{find, name_of};
@@ -75,6 +75,8 @@ fn advance<L: Ledger>(
     steps: &mut Steps<L>,
 ) -> Result<Option<Fault>, OutOfMemory>
     requires entries { state.old.env.entries ≡ [] }
+    requires names { state.old.env.names ≡ [] }
+    requires below { state.old.env.below ≡ [] }
     requires known { state.old.known ≡ [] }
     requires units { state.old.units ≡ 0 }
     requires place { state.old.place ≡ 0 }
@@ -128,6 +130,8 @@ fn take_entry<L: Ledger>(
     steps: &mut Steps<L>,
 ) -> Result<Step, OutOfMemory>
     requires env { IsPlainEnv state.old.env.entries }
+    requires names { state.old.env.names ≡ [] }
+    requires below { state.old.env.below ≡ [] }
     requires entry { IsKnownEntry state.old.env.entries (declaration_of entry) }
     requires fresh { find state.old.known (name_of (declaration_of entry)) ≡ None }
     requires room { state.old.units < end }
@@ -167,6 +171,8 @@ fn judge<L: Ledger>(
     steps: &mut Steps<L>,
 ) -> Result<Option<Refusal>, OutOfMemory>
     requires env { IsPlainEnv env.now.entries }
+    requires names { env.now.names ≡ [] }
+    requires below { env.now.below ≡ [] }
     requires entry { IsKnownEntry env.now.entries (declaration_of entry.now) }
     ensures refusal { IfOk result (λ r. reason_in r ≡ refusal_of (kernel env.now.entries (declaration_of entry.now))) }
     ensures cost { OnOk result (steps.new ≡ steps.old + charge_of 100000 (kernel env.now.entries (declaration_of entry.now))) }
@@ -176,6 +182,7 @@ fn judge<L: Ledger>(
     Ok(refusal_by(&verdict))
 }
 
+#[tactic(auto, using(crate::proofs::Checking::kernel_rules))]
 fn verdict_on<L: Ledger>(
     alloc: Global,
     env: &PlainEnv,
@@ -183,6 +190,8 @@ fn verdict_on<L: Ledger>(
     steps: &mut Steps<L>,
 ) -> Result<Verdict, OutOfMemory>
     requires env { IsPlainEnv env.now.entries }
+    requires names { env.now.names ≡ [] }
+    requires below { env.now.below ≡ [] }
     requires entry { IsKnownEntry env.now.entries (declaration_of entry.now) }
     ensures verdict { IfOk result (λ v. answer_of v ≡ verdict_of 100000 (kernel env.now.entries (declaration_of entry.now))) }
     ensures cost { OnOk result (steps.new ≡ steps.old + charge_of 100000 (kernel env.now.entries (declaration_of entry.now))) }

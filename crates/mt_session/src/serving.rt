@@ -3,7 +3,8 @@ ghost use Rattle.std.specs.Prelude.{◌≡◌, ◌+◌, ◌<◌, ◌≤◌, ◌�
 ghost use Rattle.std.specs.Io.KnownBytes.{Appends, Keeps};
 ghost use Rattle.std.specs.Str.{is_utf8};
 ghost use Rattle.mt_text.specs.Causes.{Rose, AppendsPrefix};
-ghost use Rattle.mt_term.specs.FirstTyping.{IsSound};
+ghost use Rattle.mt_term.specs.SoundEnvironment.{SoundEnvironment};
+ghost use Rattle.mt_session.specs.Known.{alone};
 ghost use Rattle.mt_session.specs.declared.serving.ReadStop.TheVariants.{OutOfMemory};
 ghost use Rattle.mt_session.specs.Runs.{output_of, status_of, charges_of, run_from, most};
 ghost use Rattle.mt_session.specs.Served.{IsWhole, IsCut, IsUnread, IsAnswer, code_of};
@@ -77,7 +78,7 @@ pub fn serve<I: Source, O: Sink, L: Ledger>(
     ensures uncharged { IsUnread result → steps.new ≡ steps.old }
 
     // Each state of the run has a sound environment.
-    ensures sound { IfSome (I.left input.old) (λ bytes. (n : ℕ) → IsSound (run_from bytes n [] 0 0).entries) }
+    ensures sound { IfSome (I.left input.old) (λ bytes. (n : ℕ) → SoundEnvironment (alone (run_from bytes n [] 0 0).entries)) }
 
     // A fault comes only from its device.
     ensures read { result ≡ Status.ReadFault → Rose (I.faults input.old) (I.faults input.new) }

@@ -1,7 +1,17 @@
-use Rattle.std.proofs.lemmas.Result.{IfOk-weaker}
-use Rattle.mt_kernel.proofs.Typed.{yes_typed}
+use Rattle.std.proofs.Common.{arith, ap}
+use Rattle.mt_term.specs.Charges.{rest}
+use Rattle.mt_term.specs.TreeOf.{tree_of}
+use Rattle.mt_term.proofs.InferenceLaws.{check-rest}
+use Rattle.mt_kernel.specs.EnvironmentOf.{environment_of}
+use Rattle.mt_kernel.proofs.Typed.{term_derived}
 use Rattle.mt_kernel.proofs.check.Goals as goal
 
-pub returns-clause-typed : goal.returns-clause-typed
-returns-clause-typed g c =
-    IfOk-weaker c.closed.result _ _ (λ v h. yes_typed _ _ _ _ v c.requires.env c.requires.term c.requires.ty (h _ c.check_term-answer.ensures.answer)) c.closed.ensures.verdict
+pub overflow_sub-result : goal.overflow_sub-result
+overflow_sub-result g c =
+    let answer = rw c.in-Ok.is at c.check_term.ensures.answer in
+    omega (arith, check-rest (environment_of c.args.env.now) (tree_of c.args.term.now) (tree_of c.args.ty.now) c.args.allowance, ap rest answer)
+
+pub returns-in-Ok-clause-typed : goal.returns-in-Ok-clause-typed
+returns-in-Ok-clause-typed g c =
+    let answer = rw c.in-Ok.is at c.check_term.ensures.answer in
+    λ yes. term_derived (environment_of c.args.env.now) (tree_of c.args.term.now) (tree_of c.args.ty.now) c.args.allowance _ _ c.requires.term c.requires.ty answer

@@ -1,7 +1,17 @@
-use Rattle.std.proofs.lemmas.Result.{IfOk-weaker}
-use Rattle.mt_kernel.proofs.Typed.{yes_sort}
+use Rattle.std.proofs.Common.{arith, ap}
+use Rattle.mt_term.specs.Charges.{rest}
+use Rattle.mt_term.specs.TreeOf.{tree_of}
+use Rattle.mt_term.proofs.InferenceLaws.{check_type-rest}
+use Rattle.mt_kernel.specs.EnvironmentOf.{environment_of}
+use Rattle.mt_kernel.proofs.Typed.{type_derived}
 use Rattle.mt_kernel.proofs.check_type.Goals as goal
 
-pub returns-clause-typed : goal.returns-clause-typed
-returns-clause-typed g c =
-    IfOk-weaker c.closed.result _ _ (λ v h. yes_sort _ _ _ v c.requires.ty (h _ c.check_sort-answer.ensures.answer)) c.closed.ensures.verdict
+pub overflow_sub-result : goal.overflow_sub-result
+overflow_sub-result g c =
+    let answer = rw c.in-Ok.is at c.check_sort.ensures.answer in
+    omega (arith, check_type-rest (environment_of c.args.env.now) (tree_of c.args.ty.now) c.args.allowance, ap rest answer)
+
+pub returns-in-Ok-clause-typed : goal.returns-in-Ok-clause-typed
+returns-in-Ok-clause-typed g c =
+    let answer = rw c.in-Ok.is at c.check_sort.ensures.answer in
+    λ yes. type_derived (environment_of c.args.env.now) (tree_of c.args.ty.now) c.args.allowance _ _ c.requires.ty answer

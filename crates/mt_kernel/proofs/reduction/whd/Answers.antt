@@ -1,10 +1,14 @@
-use Rattle.std.proofs.Common.{◌∙◌, arith}
-use Rattle.mt_kernel.proofs.Charging.{whd_steps}
+use Rattle.std.proofs.Common.{arith, ap}
+use Rattle.mt_term.specs.Charges.{rest}
+use Rattle.mt_term.specs.Stores.{no_store}
+use Rattle.mt_term.specs.Trees.{End}
+use Rattle.mt_term.specs.TreeOf.{tree_of}
+use Rattle.mt_term.proofs.WeakHeadLaws.{look-rest}
+use Rattle.mt_kernel.specs.EnvironmentOf.{environment_of}
 use Rattle.mt_kernel.proofs.reduction.whd.Goals as goal
 
-pub loop-body-preserved : goal.loop-body-preserved
-loop-body-preserved g c = record {
-  same = c.loop-body.invariant.same ∙ whd_steps _ _ _ _ _ c.in-Some.ensures c.in_ok-charge.ensures.ok.0;
-  charges = omega (arith, c.in_ok-charge.ensures.ok.0, c.in_ok-charge.ensures.ok.1);
-  falls = omega (arith, c.in_ok-charge.ensures.ok.0, c.in_ok-charge.ensures.ok.1);
-}
+pub loop-head-smaller : goal.loop-head-smaller
+loop-head-smaller g c =
+    let charged = c.in_ok-charge.ensures.ok in
+    let bound = look-rest (environment_of c.args.env.now) no_store (tree_of c.loop-head.head) End c.loop-head.left in
+    omega (arith, bound, ap rest c.in_ok-next.ensures.answer, charged.0, charged.1)

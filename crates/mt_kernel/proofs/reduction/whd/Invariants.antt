@@ -1,14 +1,15 @@
-use Rattle.std.proofs.Common.{◌≡◌, ◌+◌, ◌≤◌}
+use Rattle.std.proofs.Common.{◌≡◌, ◌+◌}
+use Rattle.mt_kernel.specs.EnvironmentOf.{environment_of}
+use Rattle.mt_term.specs.Stores.{no_store}
 use Rattle.mt_term.specs.TreeOf.{tree_of}
-use Rattle.mt_term.specs.Reduction.{whd}
+use Rattle.mt_term.specs.WeakHead.{whd}
 use Rattle.mt_kernel.proofs.reduction.whd.Given as goal
 
-abbrev pub invariant-loop-body : goal.invariant-loop-body
-invariant-loop-body g l = record {
-  same : whd l.es (tree_of l.t) l.initial.left ≡ whd l.es (tree_of l.head) l.left;
-  charges : l.steps + l.left ≡ l.initial.steps + l.initial.left;
-  falls : l.left ≤ l.initial.left;
+abbrev pub invariant-loop-head : goal.invariant-loop-head
+invariant-loop-head g l = record {
+  same : whd (environment_of l.env) no_store (tree_of l.initial.head) l.initial.left ≡ whd (environment_of l.env) no_store (tree_of l.head) l.left;
+  cost : l.steps + l.left ≡ l.initial.steps + l.initial.left;
 }
 
-abbrev pub decreases-loop-body : goal.decreases-loop-body
-decreases-loop-body g l = l.left
+abbrev pub decreases-loop-head : goal.decreases-loop-head
+decreases-loop-head g l = l.left

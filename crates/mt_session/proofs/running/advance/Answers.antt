@@ -5,7 +5,7 @@ use Rattle.mt_session.proofs.running.advance.Goals as goal
 
 pub units-init : goal.units-init
 units-init g c = record {
-  ready = ready_first _ c.args.state.now c.utf8.text c.requires.entries c.requires.known c.requires.units c.requires.place;
+  ready = ready_first _ c.args.state.now c.utf8.text c.requires.entries c.requires.names c.requires.below c.requires.known c.requires.units c.requires.place;
   same = run_first _ c.args.state.now c.requires.entries c.requires.units c.requires.place;
   spent = cost_first _ c.args.state.now c.args.steps.now c.requires.entries c.requires.units c.requires.place;
 }

@@ -1,0 +1,10 @@
+use Rattle.mt_kernel.proofs.comparison.+convert.Given as goal
+
+abbrev pub decreases-convert : goal.decreases-convert
+decreases-convert g l = l.deep
+
+abbrev pub decreases-same_heads : goal.decreases-same_heads
+decreases-same_heads g l = l.deep
+
+abbrev pub decreases-same_spine : goal.decreases-same_spine
+decreases-same_spine g l = l.deep

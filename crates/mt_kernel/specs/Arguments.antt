@@ -1,0 +1,15 @@
+-- The arguments and the optional terms that the program holds.
+use Rattle.std.specs.Prelude.{Option, Some, None}
+use Rattle.mt_term.specs.Trees.{Tree, Trees, End, Item}
+use Rattle.mt_term.specs.TreeOf.{tree_of}
+use Rattle.mt_term.specs.declared.terms.Term.{Term}
+use Rattle.mt_kernel.specs.declared.arguments.Args.{Args, End as NoMore, More'}
+
+-- arguments, the first of which is the innermost
+abbrev pub args_of : Args → Trees
+args_of NoMore = End
+args_of (More' a q rest) = Item (tree_of a.now) (args_of rest)
+
+abbrev pub tree_in : Option Term → Option Tree
+tree_in None = None
+tree_in (Some t) = Some (tree_of t)

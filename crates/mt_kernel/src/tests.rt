@@ -1,0 +1,146 @@
+// The kernel's calls with ample memory, and the costs of worked terms.
+ghost use Rattle.std.specs.Prelude.{◌≡◌, ◌<◌, [], ◌∷◌, IfOk, length};
+ghost use Rattle.mt_kernel.specs.EnvironmentOf.{environment_of};
+ghost use Rattle.mt_kernel.specs.Plain.{IsPlain, IsPlainEnv};
+ghost use Rattle.mt_term.specs.TreeOf.{tree_of};
+
+use crate::{Verdict, check, check_type};
+use mt_term::{
+    Atoms, Entries, Entry, Name, Names, OutOfMemory, Pairs, PlainEnv, Sort, Term, UnivExpr,
+};
+use mt_text::{Ledger, PlainLedger, Steps};
+use std::alloc::{AllocFailed, Global};
+use std::sync::ledger::Blank;
+use std::test::Fail;
+
+fn typ(alloc: Global, base: u32) -> Term
+    ensures { IsPlain (tree_of result) }
+{
+    Term::Sort(Sort::Typ(UnivExpr {
+        base,
+        atoms: Atoms::new(alloc),
+    }))
+}
+
+fn prod(alloc: Global, domain: Term, codomain: Term) -> Result<Term, OutOfMemory>
+    requires domain { IsPlain (tree_of domain) }
+    requires codomain { IsPlain (tree_of codomain) }
+    ensures { IfOk result (λ t. IsPlain (tree_of t)) }
+{
+    let domain = Box::new(alloc, domain)?;
+    let codomain = Box::new(alloc, codomain)?;
+    Ok(Term::Prod(Name::new(alloc), domain, codomain))
+}
+
+fn lam(alloc: Global, domain: Term, body: Term) -> Result<Term, OutOfMemory>
+    requires domain { IsPlain (tree_of domain) }
+    requires body { IsPlain (tree_of body) }
+    ensures { IfOk result (λ t. IsPlain (tree_of t)) }
+{
+    let domain = Box::new(alloc, domain)?;
+    let body = Box::new(alloc, body)?;
+    Ok(Term::Lam(Name::new(alloc), domain, body))
+}
+
+// No entry.
+fn empty(alloc: Global) -> PlainEnv
+    ensures { IsPlainEnv (environment_of result) }
+{
+    PlainEnv {
+        entries: Entries::new(alloc),
+        names: Names::new(alloc),
+        below: Pairs::new(alloc),
+    }
+}
+
+// `∀A:Prop.A→A`
+fn every(alloc: Global) -> Result<Term, OutOfMemory>
+    ensures { IfOk result (λ t. IsPlain (tree_of t)) }
+{
+    let arrow = prod(alloc, Term::Var(0), Term::Var(1))?;
+    prod(alloc, Term::Sort(Sort::Prop), arrow)
+}
+
+// `λA:Prop.λx:A.x`
+fn identity(alloc: Global) -> Result<Term, OutOfMemory>
+    ensures { IfOk result (λ t. IsPlain (tree_of t)) }
+{
+    let inner = lam(alloc, Term::Var(0), Term::Var(0))?;
+    lam(alloc, Term::Sort(Sort::Prop), inner)
+}
+
+// 0 and the cost, or the number of the reason, or 23 where the allowance is spent.
+fn told(verdict: &Verdict) -> (u8, u64) {
+    match verdict {
+        Verdict::Yes { cost } => (0, *cost),
+        Verdict::No { reason } => (reason.number(), 0),
+        Verdict::Spent => (23, 0),
+    }
+}
+
+fn checked<L: Ledger>(
+    alloc: Global,
+    term: &Term,
+    ty: &Term,
+    allowance: u64,
+    blank: Blank,
+) -> Result<(u8, u64), OutOfMemory>
+    requires name { blank.name ≡ L.name }
+    requires parts { blank.parts ≡ L.parts }
+    requires some { 0 < L.parts }
+    requires term { IsPlain (tree_of term.now) }
+    requires ty { IsPlain (tree_of ty.now) }
+{
+    let env = empty(alloc);
+    let mut steps = Steps::<L>::new(blank);
+    Ok(told(&check(alloc, &env, term, ty, allowance, &mut steps)?))
+}
+
+fn type_checked<L: Ledger>(
+    alloc: Global,
+    ty: &Term,
+    allowance: u64,
+    blank: Blank,
+) -> Result<(u8, u64), OutOfMemory>
+    requires name { blank.name ≡ L.name }
+    requires parts { blank.parts ≡ L.parts }
+    requires some { 0 < L.parts }
+    requires ty { IsPlain (tree_of ty.now) }
+{
+    let env = empty(alloc);
+    let mut steps = Steps::<L>::new(blank);
+    Ok(told(&check_type(alloc, &env, ty, allowance, &mut steps)?))
+}
+
+fn says(alloc: Global, term: &Term, ty: &Term, allowance: u64) -> Result<(u8, u64), OutOfMemory>
+    requires term { IsPlain (tree_of term.now) }
+    requires ty { IsPlain (tree_of ty.now) }
+{
+    checked::<PlainLedger>(alloc, term, ty, allowance, Blank::new(1))
+}
+
+fn says_of_type(alloc: Global, ty: &Term, allowance: u64) -> Result<(u8, u64), OutOfMemory>
+    requires ty { IsPlain (tree_of ty.now) }
+{
+    type_checked::<PlainLedger>(alloc, ty, allowance, Blank::new(1))
+}
+
+#[test]
+fn a_universe_is_not_in_itself(rt: HostRuntime) -> Result<(), Fail> {
+    let alloc = rt.alloc();
+    assert_eq!(rt; says(alloc, &typ(alloc, 0), &typ(alloc, 0), 100)?, (7, 0));
+    assert_eq!(rt; says(alloc, &typ(alloc, 0), &typ(alloc, 1), 100)?, (0, 3));
+    Ok(())
+}
+
+#[test]
+fn each_step_is_counted(rt: HostRuntime) -> Result<(), Fail> {
+    let alloc = rt.alloc();
+    let term = identity(alloc)?;
+    let ty = every(alloc)?;
+    assert_eq!(rt; says(alloc, &term, &ty, 100)?, (0, 11));
+    assert_eq!(rt; says(alloc, &term, &ty, 11)?, (0, 11));
+    assert_eq!(rt; says(alloc, &term, &ty, 10)?, (23, 0));
+    assert_eq!(rt; says_of_type(alloc, &ty, 5)?, (0, 5));
+    Ok(())
+}
