@@ -12,6 +12,9 @@ use Rattle.mt_term.specs.Contraction.{ConstructorOf, Contracts, beta, iota, unfo
 use Rattle.mt_term.specs.Typing.{Has, IsContext, IsType, Fitting, Strict, here, c_empty, c_cons, t_var, t_typ, t_prod, t_ind, t_con, t_const, t_lam, t_app, t_match, t_sub, f_arm, f_none, b_more, b_done, k_sort, k_prod, at_none, m_end, of_types, lowest}
 use Rattle.mt_term.specs.Positivity.{Positive, past_parameters, recursive_argument, result, of_type}
 use Rattle.mt_term.specs.Guard.{Place, Smaller, GuardedRecursive, place_binder, past_binders, on_type, guarded_cases, guarded_call, guarded_var, guarded_ind, guarded_con, guarded_lam, guarded_item, guarded_end, at_place, guarded_branch, guarded_no_branch, BranchMarks, of_constructor, no_name, recursive_name, smaller}
+use Rattle.mt_term.specs.Charges.{Done}
+use Rattle.mt_term.specs.Knot.{fixed}
+use Rattle.mt_term.specs.WeakHead.{whd, look, normal}
 use Rattle.mt_term.specs.Instances.{InstanceOf, inst_app, inst_con, inst_assigned, inst_end}
 
 -- the numbers, entry 0: a type of two constructors, the second with one argument
@@ -82,6 +85,11 @@ value_contracts = assigned refl refl
 
 value_instance : InstanceOf store (App (Con 0 1) (Meta 0 End)) (App (Con 0 1) (Con 0 0))
 value_instance = inst_app inst_con (inst_assigned refl inst_con inst_end)
+
+-- the normal form of a term with an assigned metavariable is its instance here
+value_normal : normal numbers store (App (Con 0 1) (Meta 0 End)) 1 ≡ Done (App (Con 0 1) (Con 0 0)) 0
+unfolding normal look whd fixed
+value_normal = refl
 
 -- The environment of the numbers and the function is sound.
 abbrev just_type : Environment

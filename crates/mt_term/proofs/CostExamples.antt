@@ -1,18 +1,18 @@
 -- What the definitions with charges give on small terms.
-use Rattle.std.specs.Prelude.{◌≡◌, refl, [], ◌∷◌, true, false, Some}
+use Rattle.std.specs.Prelude.{◌≡◌, refl, List, [], ◌∷◌, true, false, Some}
 use Rattle.mt_term.specs.Trees.{Tree, Var, Sort, Prod, Lam, App, Const, Ind, Con, Match, NoArm, Arm}
-use Rattle.mt_term.specs.Declarations.{Inductive, Recursive, Environment, Mismatch}
-use Rattle.mt_term.specs.Charges.{Done, Refused, Spent}
+use Rattle.mt_term.specs.Declarations.{Hypothesis, Inductive, Recursive, Environment, Mismatch}
+use Rattle.mt_term.specs.Charges.{Done, Refused, Spent, Charged, charge, ◌>>=◌}
 use Rattle.mt_term.specs.Knot.{fixed}
 use Rattle.mt_term.specs.Stores.{no_store}
 use Rattle.mt_term.specs.Alike.{is_alike}
 use Rattle.mt_term.specs.WeakHead.{whd, look, step, normal}
 use Rattle.mt_term.specs.Comparison.{◌and◌, compared, convert}
-use Rattle.mt_term.specs.Inference.{infer}
+use Rattle.mt_term.specs.Inference.{infer, sorted, agrees}
 use Rattle.mt_term.specs.KernelCheck.{check_type, check}
 use Rattle.mt_term.specs.Universes.{normal_form, maximum, raised}
 use Rattle.mt_term.specs.UniverseOrder.{path, height, acyclic, at_most, same}
-use Rattle.mt_term.specs.declared.modes.Mode.TheVariants.{Equal}
+use Rattle.mt_term.specs.declared.modes.Mode.TheVariants.{Equal, AtMost}
 use Rattle.mt_term.specs.declared.universes.Sort.TheVariants.{Prop, Typ}
 
 abbrev type0 : Tree
@@ -114,6 +114,17 @@ same_again = Lam (65 ∷ []) (Sort Prop) (Lam (120 ∷ []) (Var 0) (Var 0))
 every_type : infer empty no_store [] every 5 ≡ Done (Sort Prop) 0
 unfolding infer whd fixed every maximum normal_form
 every_type = refl
+
+-- The term, taken against its type, costs 8: one charge for each part, and one for each comparison. An abstraction is taken against
+-- a product by its type, the comparison of both domains, and its body.
+abbrev against : List Hypothesis → Tree → Tree → Charged (Unit {0})
+against Γ (Lam x a b) (Prod y c d) =
+    charge (sorted empty no_store (infer empty no_store Γ a) >>= λ s. agrees empty no_store Γ Equal a c >>= λ z. against (record { name = x; ty = a } ∷ Γ) b d)
+against Γ t u = infer empty no_store Γ t >>= λ v. agrees empty no_store Γ AtMost v u
+
+identity_against : against [] same_again every 8 ≡ Done tt 0
+unfolding infer convert compared whd fixed every same_again is_alike
+identity_against = refl
 
 identity_check : check empty same_again every 11 ≡ Done tt 0
 unfolding check check_type infer convert compared whd fixed every same_again is_alike

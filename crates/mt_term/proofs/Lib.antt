@@ -1,7 +1,7 @@
 pub mod UniverseAtoms
 pub mod UniverseFormLaws
+pub mod UniverseNormalLaws
 pub mod UniverseOrderLaws
-pub mod FirstSoundness
 mod UniverseExamples
 mod CostExamples
 pub mod Charged
@@ -49,5 +49,6 @@ pub mod StoreSteps
 pub mod ReductionTheorems
 pub mod PlaceLaws
 pub mod NormalRules
+pub mod AllowanceTheorem
 mod CalculusExamples
 pub mod UnfoldLaws

@@ -11,16 +11,16 @@ use Rattle.mt_term.specs.Universes.{with_atom, with_atoms, by_name, reaches, nor
 abbrev joined_atom : Atom → Atom → Atom
 joined_atom a b = record { name = b.name; offset = max a.offset b.offset }
 
-with_atom_past : (a b : Atom) (bs : List Atom) → b.name < a.name → with_atom a (b ∷ bs) ≡ b ∷ with_atom a bs
+pub with_atom_past : (a b : Atom) (bs : List Atom) → b.name < a.name → with_atom a (b ∷ bs) ≡ b ∷ with_atom a bs
 with_atom_past a b bs p =
     cond-false (ltb a.name b.name) (a ∷ b ∷ bs) (cond (eqb a.name b.name) (joined_atom a b ∷ bs) (b ∷ with_atom a bs)) (le-ltb _ _ (omega arith))
     ∙ cond-false (eqb a.name b.name) (joined_atom a b ∷ bs) (b ∷ with_atom a bs) (ne_eqb _ _ (λ e. omega arith))
 
-with_atom_before : (a b : Atom) (bs : List Atom) → a.name < b.name → with_atom a (b ∷ bs) ≡ a ∷ b ∷ bs
+pub with_atom_before : (a b : Atom) (bs : List Atom) → a.name < b.name → with_atom a (b ∷ bs) ≡ a ∷ b ∷ bs
 with_atom_before a b bs p =
     cond-true (ltb a.name b.name) (a ∷ b ∷ bs) (cond (eqb a.name b.name) (joined_atom a b ∷ bs) (b ∷ with_atom a bs)) (lt-ltb _ _ p)
 
-with_atom_same : (a b : Atom) (bs : List Atom) → a.name ≡ b.name → with_atom a (b ∷ bs) ≡ joined_atom a b ∷ bs
+pub with_atom_same : (a b : Atom) (bs : List Atom) → a.name ≡ b.name → with_atom a (b ∷ bs) ≡ joined_atom a b ∷ bs
 with_atom_same a b bs e =
     cond-false (ltb a.name b.name) (a ∷ b ∷ bs) (cond (eqb a.name b.name) (joined_atom a b ∷ bs) (b ∷ with_atom a bs)) (le-ltb _ _ (omega arith))
     ∙ cond-true (eqb a.name b.name) (joined_atom a b ∷ bs) (b ∷ with_atom a bs) (eq-eqb _ _ e)

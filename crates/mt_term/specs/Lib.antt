@@ -8,9 +8,6 @@ pub mod Passing
 pub mod Replaced
 pub mod Depth
 pub mod Charges
-pub mod FirstTerms
-pub mod Reduction
-pub mod FirstTyping
 pub mod DeclarationCode
 pub mod HypothesisOf
 pub mod ConstructorOf
@@ -35,6 +32,7 @@ pub mod Comparison
 pub mod Inference
 pub mod KernelCheck
 pub mod ReductionLaws
+pub mod AllowanceLaws
 pub mod Scopes
 pub mod Positivity
 pub mod Guard

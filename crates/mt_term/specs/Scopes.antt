@@ -1,12 +1,55 @@
--- Terms whose variables are those of a context, and which have no metavariable.
-use Rattle.std.specs.Prelude.{◌<◌, ℕ, suc, List, [], ◌∷◌, length}
+-- What a term may speak of: terms in scope in a context, and terms without metavariables whose variables are those of a context.
+use Rattle.std.specs.Prelude.{◌≡◌, ◌≢◌, ◌<◌, ℕ, suc, List, [], ◌∷◌, length, None, Some}
+use Rattle.std.specs.List.{All}
+use Rattle.mt_term.specs.declared.universes.Sort.{Sort as AnySort}
+use Rattle.mt_term.specs.declared.universes.Sort.TheVariants.{Prop, Typ}
 use Rattle.mt_term.specs.Trees.{Tree, Trees, Arms, Bytes, Var, Sort, Prod, Lam, App, Const, Ind, Con, Match, Meta, End, Item, NoArm, Arm}
+use Rattle.mt_term.specs.Declarations.{Environment, constructor_at}
+use Rattle.mt_term.specs.Substitution.{count}
+use Rattle.mt_term.specs.Stores.{Declared, Store}
 use Rattle.mt_term.specs.Typing.{Claim, IsContext, IsType, Has, Stands, Fitting, Body}
 
 -- how many variables there are under further names
 abbrev pub deep : List Bytes → ℕ → ℕ
 deep [] n = n
 deep (x ∷ xs) n = deep xs (suc n)
+
+-- a metavariable is there, and its context has so many hypotheses
+abbrev pub HasTerms : Store → ℕ → ℕ → Type 0
+HasTerms S m terms = (d : Declared) × (S.at m ≡ Some d) × (length d.context ≡ terms)
+
+-- each universe name of a sort is one of the environment's
+abbrev pub IsNamed : Environment → AnySort → Type 0
+IsNamed E Prop = Unit {0}
+IsNamed E (Typ u) = All (λ a. a.name < length E.names) u.atoms
+
+-- In scope under n hypotheses: each variable is one of these, entries, constructors, universe names and metavariables are there,
+-- and each metavariable has as many terms as its context has hypotheses.
+abbrev mutual
+  pub InScope : Environment → Store → ℕ → Tree → Type 0
+  InScope E S n (Var i) = i < n
+  InScope E S n (Sort s) = IsNamed E s
+  InScope E S n (Prod x A B) = InScope E S n A × InScope E S (suc n) B
+  InScope E S n (Lam x A b) = InScope E S n A × InScope E S (suc n) b
+  InScope E S n (App f a) = InScope E S n f × InScope E S n a
+  InScope E S n (Const c) = c < length E.entries
+  InScope E S n (Ind e) = e < length E.entries
+  InScope E S n (Con e k) = constructor_at E.entries e k ≢ None
+  InScope E S n (Match e R c bs) = (e < length E.entries) × InScope E S n R × InScope E S n c × InScopeArms E S n bs
+  InScope E S n (Meta m s) = HasTerms S m (count s) × InScopeAll E S n s
+
+  pub InScopeAll : Environment → Store → ℕ → Trees → Type 0
+  InScopeAll E S n End = Unit {0}
+  InScopeAll E S n (Item t s) = InScope E S n t × InScopeAll E S n s
+
+  pub InScopeArms : Environment → Store → ℕ → Arms → Type 0
+  InScopeArms E S n NoArm = Unit {0}
+  InScopeArms E S n (Arm xs b bs) = InScope E S (deep xs n) b × InScopeArms E S n bs
+
+-- each type of a context is in scope under the older hypotheses
+abbrev pub InScopeContext : Environment → Store → List Tree → Type 0
+InScopeContext E S [] = Unit {0}
+InScopeContext E S (A ∷ Γ) = InScope E S (length Γ) A × InScopeContext E S Γ
 
 -- each variable is one of n, and no metavariable stands in the term
 abbrev mutual

@@ -1,5 +1,5 @@
 -- Universe expressions: their values, their order under constraints, and the forms that typing makes of them.
-use Rattle.std.specs.Prelude.{ℕ, zero, suc, ◌+◌, ◌^◌, ◌<◌, ◌≤◌, max, Bool, ◌&&◌, ◌==◌, nat_lt, nat_le, if◌then◌else◌, List, [], ◌∷◌, ◌++◌, Option, Some, None}
+use Rattle.std.specs.Prelude.{◌≡◌, true, ℕ, zero, suc, ◌+◌, ◌^◌, ◌<◌, ◌≤◌, max, Bool, ◌&&◌, ◌==◌, nat_lt, nat_le, if◌then◌else◌, List, [], ◌∷◌, ◌++◌, Option, Some, None}
 use Rattle.std.specs.List.{All, list_any, list_all}
 use Rattle.mt_term.specs.declared.universes.Atom.{Atom}
 use Rattle.mt_term.specs.declared.universes.UnivExpr.{UnivExpr}
@@ -74,6 +74,18 @@ normal_form u = record { base = if reaches u.base u.atoms then 0 else u.base; at
 -- the maximum of two, in normal form
 unfoldable pub maximum : UnivExpr → UnivExpr → UnivExpr
 maximum u w = normal_form (record { base = max u.base w.base; atoms = u.atoms ++ w.atoms })
+
+-- the names of atoms grow, from past n on
+abbrev pub AreAbove : ℕ → List Atom → Type 0
+AreAbove n [] = Unit {0}
+AreAbove n (a ∷ rest) = (n < a.name) × AreAbove a.name rest
+
+abbrev pub AreByName : List Atom → Type 0
+AreByName [] = Unit {0}
+AreByName (a ∷ rest) = AreAbove a.name rest
+
+abbrev pub IsNormal : UnivExpr → Type 0
+IsNormal u = AreByName u.atoms × (reaches u.base u.atoms ≡ true → u.base ≡ 0)
 
 -- Every number one higher; a base 0 beside atoms stays 0.
 abbrev pub raised_base : ℕ → List Atom → ℕ

@@ -66,7 +66,6 @@ fn copy_within(alloc: Global, t: &Term, deep: usize) -> Result<Term, AllocError>
 }
 
 #[cycle(copy)]
-#[inline(never)]
 fn copy_terms_within(alloc: Global, ts: &Terms, deep: usize) -> Result<Terms, AllocError>
     ensures { IfOk result (λ us. trees_of us ≡ trees_of ts.now) }
 {
@@ -82,7 +81,6 @@ fn copy_terms_within(alloc: Global, ts: &Terms, deep: usize) -> Result<Terms, Al
 }
 
 #[cycle(copy)]
-#[inline(never)]
 fn copy_branches_within(alloc: Global, bs: &Branches, deep: usize) -> Result<Branches, AllocError>
     ensures { IfOk result (λ cs. arms_of cs ≡ arms_of bs.now) }
 {

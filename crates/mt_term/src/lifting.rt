@@ -61,7 +61,6 @@ pub(crate) fn lift_within(
 }
 
 #[cycle(lift)]
-#[inline(never)]
 fn lift_terms(
     alloc: Global,
     ts: &Terms,
@@ -83,7 +82,6 @@ fn lift_terms(
 }
 
 #[cycle(lift)]
-#[inline(never)]
 fn lift_branches(
     alloc: Global,
     bs: &Branches,

@@ -1,4 +1,5 @@
 // The laws of weak heads, comparison and inference: each function does nothing, and its clause is the law.
+ghost use Rattle.mt_term.specs.AllowanceLaws.{AllowanceLaw};
 ghost use Rattle.mt_term.specs.ReductionLaws.{WeakHeadLaw, StepLaw, NormalFormLaw, ComparisonLaw, InferenceLaw, StrictInferenceLaw, TypeCheckLaw, CheckLaw};
 
 /// The weak head of a term is reached from it by contractions.
@@ -39,4 +40,9 @@ pub fn type_check_gives_sort()
 /// The kernel's check of a term gives strict derivations.
 pub fn check_gives_type()
     ensures law { CheckLaw }
+{}
+
+/// What is not spent at an allowance is the same at a greater one, with as much more left; and never more is left than was given.
+pub fn going_by_allowance()
+    ensures law { AllowanceLaw }
 {}

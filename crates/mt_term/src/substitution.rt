@@ -92,7 +92,6 @@ fn substitute_within(
 }
 
 #[cycle(substitute)]
-#[inline(never)]
 fn substitute_terms(
     alloc: Global,
     ts: &Terms,
@@ -114,7 +113,6 @@ fn substitute_terms(
 }
 
 #[cycle(substitute)]
-#[inline(never)]
 fn substitute_branches(
     alloc: Global,
     bs: &Branches,

@@ -2,7 +2,7 @@
 use crate::{
     Atom, Atoms, Branch, Branches, Cons, Constructor, Entries, Entry, GoalMarks, Hyp, Hyps, Metas,
     Name, Names, Note, Notes, Pairs, PlainEq, PlainEqs, PlainMeta, Refusal, Sort, Term, Terms,
-    UnivExpr, alike, copy, filled, is_within, lift, substitute, under,
+    UnivExpr, alike, copy, derivations, filled, is_within, lift, reductions, substitute, under,
 };
 use std::alloc::{AllocError, Global};
 use std::test::Fail;
@@ -175,5 +175,42 @@ fn binder_names_do_not_count(rt: HostRuntime) -> Result<(), Fail> {
     let term = lam(alloc, b"x".as_slice(), Term::Var(0))?;
     assert!(rt; alike(&term, &lam(alloc, b"y".as_slice(), Term::Var(0))?));
     assert!(rt; !alike(&term, &lam(alloc, b"x".as_slice(), Term::Var(1))?));
+    Ok(())
+}
+
+#[test]
+fn the_laws_over_derivations_are_there(_rt: HostRuntime) -> Result<(), Fail> {
+    derivations::context_of_judgement();
+    derivations::weakening();
+    derivations::substitution();
+    derivations::one_term();
+    derivations::growth_of_environment();
+    derivations::strict_implies_any();
+    derivations::scope_of_strict();
+    derivations::extension_of_store();
+    derivations::renumbering();
+    derivations::lifting();
+    derivations::replacement();
+    derivations::exchange();
+    derivations::one_instance();
+    derivations::instance_of_judgement();
+    derivations::sound_by_instances();
+    derivations::declaring();
+    derivations::assigning();
+    derivations::unfold_outside();
+    Ok(())
+}
+
+#[test]
+fn the_laws_of_charges_are_there(_rt: HostRuntime) -> Result<(), Fail> {
+    reductions::going_by_allowance();
+    reductions::weak_head_by_contractions();
+    reductions::step_by_contractions();
+    reductions::normal_form_by_contractions();
+    reductions::comparison_gives_conversion();
+    reductions::inference_gives_type();
+    reductions::inference_gives_strict_type();
+    reductions::type_check_gives_sort();
+    reductions::check_gives_type();
     Ok(())
 }

@@ -7,7 +7,8 @@ use Rattle.std.proofs.lemmas.Bool.{cases_Bool, cases_lt, lt-ltb, le-ltb, eq-eqb,
 use Rattle.std.proofs.lemmas.Slice.Eq.{bytes_eq-Decides}
 use Rattle.std.specs.List.{All}
 use Rattle.std.proofs.lemmas.List.Elements.{All-nil, All-cons, All-take}
-use Rattle.std.proofs.Math.Seq.{take-length}
+use Rattle.std.proofs.Math.Seq.{take-length, take-append_seam}
+use Rattle.std.proofs.lemmas.List.{take-append-le}
 use Rattle.mt_term.specs.Trees.{Bytes}
 use Rattle.mt_term.specs.declared.universes.UnivExpr.{UnivExpr}
 use Rattle.mt_term.specs.Universes.{Constraints, Satisfiable, IsAtMost}
@@ -266,3 +267,20 @@ module _ (cs : Constraints) (i : ℕ) (low high : ℕ) (D : ℕ → ℕ → ℕ)
       subst (λ ds. AreLongest ds D' h') (sym is)
       (AreLongest-to_back (take i cs) (low, high) D' h'
       (AreLongest-same ((low, high) ∷ take i cs) (more_paths D low high) D' (more_heights D h low high) h' (one_more (take i cs) D h low high l no_way_back) e f))
+
+-- Back to the constraints before the newest is back to the graph before it.
+take_named : (names : List Bytes) (x : Bytes) (n : ℕ) → n ≤ length names → take n (named names x) ≡ take n names
+take_named names x n le =
+  elim (cases_lt (number_or_next names x) (length names)) [
+    inl p ↦ ap (take n) (named_again names x p)
+  | inr p ↦ ap (take n) (named_new names x p) ∙ take-append-le n names (x ∷ []) le ]
+
+pub as_at_declared : (g : Universes) (a b : Bytes) → named_in g.below ≡ length g.names → as_at (declared g a b) (length g.below) ≡ g
+as_at_declared g a b numbered =
+  let first = named g.names a in
+  let more = length-named g.names a in
+  let below : take (length g.below) (declared g a b).below ≡ g.below = take-append_seam g.below _ in
+  let names : take (named_in (take (length g.below) (declared g a b).below)) (named first b) ≡ g.names =
+    ap (λ cs. take (named_in cs) (named first b)) below ∙ ap (λ n. take n (named first b)) numbered
+      ∙ take_named first b (length g.names) (omega arith) ∙ take_named g.names a (length g.names) (omega arith) ∙ take-length g.names in
+  λ i. record { names = names i; below = below i }
