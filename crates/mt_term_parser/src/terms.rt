@@ -1,4 +1,7 @@
-// The grammar of terms. `room` is how many terms more may be open within the term at hand.
+// The grammar of terms. `room` is how many terms more may be open within the term at hand, and
+// `deep` is how many steps more the tree may go down: each term takes one, and each item of a list
+// one more than the item before it. Past that memory is wanting, so no drop of a term overruns the
+// stack.
 ghost use Rattle.std.specs.Prelude.{◌≡◌, ◌-◌, ◌<◌, ◌≤◌, [], ◌∷◌, ◌++◌, ℕ, List, length, map, IfOk, IfErr, OnOk, IsTrue};
 ghost use Rattle.std.specs.Str.{IsCharBoundary};
 ghost use Rattle.mt_term_parser.specs.Readings.{many_from, IsEnd, HaltsAs, Reads, StopsInText};
@@ -14,7 +17,7 @@ use crate::readings::{
 };
 use crate::sorts::parts_at;
 use mt_lexer::Token;
-use mt_term::{Fault, Halt, Name, Refusal};
+use mt_term::{Fault, Halt, MOST_DEEP, Name, Refusal, deeper};
 use std::alloc::{AllocError, Global};
 
 /// What a token begins.
@@ -111,7 +114,7 @@ pub fn term_at(alloc: Global, text: &str, at: usize, depth: usize) -> Result<(Ra
     ensures end { IfOk result (λ p. IsEnd text.now at p.1) }
     ensures stop { IfErr result (StopsInText text.now) }
 {
-    term(alloc, NESTING.saturating_sub(depth), text, at)
+    term(alloc, NESTING.saturating_sub(depth), MOST_DEEP, text, at)
 }
 
 // How many terms and sequences may be open.
@@ -119,7 +122,13 @@ const NESTING: usize = 200;
 
 // A term, where `room` terms may be open, it among them.
 #[cycle(term)]
-fn term(alloc: Global, room: usize, text: &str, at: usize) -> Result<(Raw, usize), Halt>
+fn term(
+    alloc: Global,
+    room: usize,
+    deep: usize,
+    text: &str,
+    at: usize,
+) -> Result<(Raw, usize), Halt>
     requires { IsCharBoundary text.now at }
     ensures reads { Reads written_of (term room text.now at) result }
     ensures end { IfOk result (λ p. IsEnd text.now at p.1) }
@@ -130,7 +139,8 @@ fn term(alloc: Global, room: usize, text: &str, at: usize) -> Result<(Raw, usize
     if room == 0 {
         return Err(full(lead, &token));
     }
-    term_by(alloc, room - 1, lead, text, &token)
+    let deep = deeper(deep)?;
+    term_by(alloc, room - 1, deep, lead, text, &token)
 }
 
 // Where no further term may be open.
@@ -153,6 +163,7 @@ fn full(lead: Lead, token: &Token) -> Halt
 fn term_by(
     alloc: Global,
     room: usize,
+    deep: usize,
     lead: Lead,
     text: &str,
     token: &Token,
@@ -166,10 +177,10 @@ fn term_by(
     ensures stop { IfErr result (StopsInText text.now) }
 {
     match lead {
-        Lead::Lambda => lambda(alloc, room, text, token.start, token.end),
-        Lead::Forall => product(alloc, room, text, token.start, token.end),
+        Lead::Lambda => lambda(alloc, room, deep, text, token.start, token.end),
+        Lead::Forall => product(alloc, room, deep, text, token.start, token.end),
         Lead::Vector | Lead::Other => Err(misplaced(token)),
-        _ => arrow(alloc, room, lead, text, token),
+        _ => arrow(alloc, room, deep, lead, text, token),
     }
 }
 
@@ -178,6 +189,7 @@ fn term_by(
 fn lambda(
     alloc: Global,
     room: usize,
+    deep: usize,
     text: &str,
     start: usize,
     at: usize,
@@ -188,9 +200,9 @@ fn lambda(
     ensures stop { IfErr result (StopsInText text.now) }
 {
     let (name, after_name) = binder_at(alloc, text, at)?;
-    let (ty, after_type) = domain(alloc, room, text, after_name)?;
+    let (ty, after_type) = domain(alloc, room, deep, text, after_name)?;
     let dot = sign_at('.', text, after_type)?;
-    let (body, end) = term(alloc, room, text, dot)?;
+    let (body, end) = term(alloc, room, deep, text, dot)?;
     Ok((lam(alloc, start, name, ty, body)?, end))
 }
 
@@ -199,6 +211,7 @@ fn lambda(
 fn product(
     alloc: Global,
     room: usize,
+    deep: usize,
     text: &str,
     start: usize,
     at: usize,
@@ -210,9 +223,9 @@ fn product(
 {
     let (name, after_name) = binder_at(alloc, text, at)?;
     let colon = sign_at(':', text, after_name)?;
-    let (ty, after_type) = term(alloc, room, text, colon)?;
+    let (ty, after_type) = term(alloc, room, deep, text, colon)?;
     let dot = sign_at('.', text, after_type)?;
-    let (body, end) = term(alloc, room, text, dot)?;
+    let (body, end) = term(alloc, room, deep, text, dot)?;
     Ok((prod(alloc, start, name, ty, body)?, end))
 }
 
@@ -221,6 +234,7 @@ fn product(
 fn domain(
     alloc: Global,
     room: usize,
+    deep: usize,
     text: &str,
     at: usize,
 ) -> Result<(Option<Box<Raw>>, usize), Halt>
@@ -233,7 +247,7 @@ fn domain(
         return Ok((None, at));
     }
     let colon = sign_at(':', text, at)?;
-    let (ty, end) = term(alloc, room, text, colon)?;
+    let (ty, end) = term(alloc, room, deep, text, colon)?;
     Ok((Some(boxed(alloc, ty)?), end))
 }
 
@@ -242,6 +256,7 @@ fn domain(
 fn arrow(
     alloc: Global,
     room: usize,
+    deep: usize,
     lead: Lead,
     text: &str,
     token: &Token,
@@ -254,12 +269,12 @@ fn arrow(
     ensures end { IfOk result (λ p. (token.now.end ≤ p.1) × IsCharBoundary text.now p.1) }
     ensures stop { IfErr result (StopsInText text.now) }
 {
-    let (ty, after_type) = app(alloc, room, lead, text, token)?;
+    let (ty, after_type) = app(alloc, room, deep, lead, text, token)?;
     if !sees_sign('→', text, after_type) {
         return Ok((ty, after_type));
     }
     let sign = sign_at('→', text, after_type)?;
-    let (body, end) = term(alloc, room, text, sign)?;
+    let (body, end) = term(alloc, room, deep, text, sign)?;
     let name = Name::from_bytes(alloc, b"_")?;
     Ok((prod(alloc, token.start, name, ty, body)?, end))
 }
@@ -269,6 +284,7 @@ fn arrow(
 fn app(
     alloc: Global,
     room: usize,
+    deep: usize,
     lead: Lead,
     text: &str,
     token: &Token,
@@ -281,23 +297,31 @@ fn app(
     ensures end { IfOk result (λ p. (token.now.end ≤ p.1) × IsCharBoundary text.now p.1) }
     ensures stop { IfErr result (StopsInText text.now) }
 {
-    let (function, after_function) = atom(alloc, room, lead, text, token)?;
-    let (args, end) = arguments(alloc, room, text, after_function)?;
+    let (function, after_function) = atom(alloc, room, deep, lead, text, token)?;
+    let (args, end) = arguments(alloc, room, deep, text, after_function)?;
     Ok((applied(alloc, token.start, function, args)?, end))
 }
 
 // `{ atom | "…" }`.
 #[cycle(term)]
-fn arguments(alloc: Global, room: usize, text: &str, at: usize) -> Result<(Vec<Raw>, usize), Halt>
+fn arguments(
+    alloc: Global,
+    room: usize,
+    deep: usize,
+    text: &str,
+    at: usize,
+) -> Result<(Vec<Raw>, usize), Halt>
     requires { IsCharBoundary text.now at }
     ensures reads { Reads (λ v. map written_of v.items) (many_from text.now (sees_argument text.now) (argument (term room text.now) text.now) at) result }
     ensures end { IfOk result (λ p. (at ≤ p.1) × IsCharBoundary text.now p.1) }
     ensures stop { IfErr result (StopsInText text.now) }
 {
     let mut args = Vec::new(alloc);
+    let mut deep = deep;
     let mut end = at;
     'row: while sees_argument(text, end) {
-        let (arg, last) = argument(alloc, room, text, end)?;
+        deep = deeper(deep)?;
+        let (arg, last) = argument(alloc, room, deep, text, end)?;
         push_raw(&mut args, arg)?;
         end = last;
     }
@@ -313,7 +337,13 @@ fn push_raw(items: &mut Vec<Raw>, raw: Raw) -> Result<(), AllocError>
 
 // `atom | "…"`.
 #[cycle(term)]
-fn argument(alloc: Global, room: usize, text: &str, at: usize) -> Result<(Raw, usize), Halt>
+fn argument(
+    alloc: Global,
+    room: usize,
+    deep: usize,
+    text: &str,
+    at: usize,
+) -> Result<(Raw, usize), Halt>
     requires { IsCharBoundary text.now at }
     ensures reads { Reads written_of (argument (term room text.now) text.now at) result }
     ensures end { IfOk result (λ p. IsEnd text.now at p.1) }
@@ -322,7 +352,7 @@ fn argument(alloc: Global, room: usize, text: &str, at: usize) -> Result<(Raw, u
     let token = needed(text, at)?;
     match lead_of(text, &token) {
         Lead::Vector => Ok((plain(token.start, RawShape::Vector), token.end)),
-        lead => atom(alloc, room, lead, text, &token),
+        lead => atom(alloc, room, deep, lead, text, &token),
     }
 }
 
@@ -337,6 +367,7 @@ fn plain(start: usize, shape: RawShape) -> Raw
 fn atom(
     alloc: Global,
     room: usize,
+    deep: usize,
     lead: Lead,
     text: &str,
     token: &Token,
@@ -359,8 +390,8 @@ fn atom(
             let (parts, end) = parts_at(alloc, text, token.end)?;
             Ok((plain(token.start, RawShape::Sort(RawSort::Typ(parts))), end))
         }
-        Lead::Open => parenthesis(alloc, room, text, token.start, token.end),
-        Lead::Match => matched_at(alloc, room, text, token.start, token.end),
+        Lead::Open => parenthesis(alloc, room, deep, text, token.start, token.end),
+        Lead::Match => matched_at(alloc, room, deep, text, token.start, token.end),
         _ => Err(misplaced(token)),
     }
 }
@@ -370,6 +401,7 @@ fn atom(
 fn parenthesis(
     alloc: Global,
     room: usize,
+    deep: usize,
     text: &str,
     start: usize,
     at: usize,
@@ -379,8 +411,8 @@ fn parenthesis(
     ensures end { IfOk result (λ p. IsEnd text.now at p.1) }
     ensures stop { IfErr result (StopsInText text.now) }
 {
-    let (inner, after_term) = term(alloc, room, text, at)?;
-    let (ty, after_type) = domain(alloc, room, text, after_term)?;
+    let (inner, after_term) = term(alloc, room, deep, text, at)?;
+    let (ty, after_type) = domain(alloc, room, deep, text, after_term)?;
     let end = sign_at(')', text, after_type)?;
     Ok((cast(alloc, start, inner, ty)?, end))
 }
@@ -390,6 +422,7 @@ fn parenthesis(
 fn matched_at(
     alloc: Global,
     room: usize,
+    deep: usize,
     text: &str,
     start: usize,
     at: usize,
@@ -399,9 +432,9 @@ fn matched_at(
     ensures end { IfOk result (λ p. IsEnd text.now at p.1) }
     ensures stop { IfErr result (StopsInText text.now) }
 {
-    let (inner, after_term) = term(alloc, room, text, at)?;
-    let (ty, after_type) = returned(alloc, room, text, after_term)?;
-    let (arms, end) = match_body(alloc, room, text, after_type)?;
+    let (inner, after_term) = term(alloc, room, deep, text, at)?;
+    let (ty, after_type) = returned(alloc, room, deep, text, after_term)?;
+    let (arms, end) = match_body(alloc, room, deep, text, after_type)?;
     Ok((matched(alloc, start, inner, ty, arms)?, end))
 }
 
@@ -410,6 +443,7 @@ fn matched_at(
 fn returned(
     alloc: Global,
     room: usize,
+    deep: usize,
     text: &str,
     at: usize,
 ) -> Result<(Option<Box<Raw>>, usize), Halt>
@@ -422,13 +456,19 @@ fn returned(
         return Ok((None, at));
     }
     let word = word_at("return", text, at)?;
-    let (ty, end) = term(alloc, room, text, word)?;
+    let (ty, end) = term(alloc, room, deep, text, word)?;
     Ok((Some(boxed(alloc, ty)?), end))
 }
 
 // `"with" "[" [arm { "|" arm }] "]"`.
 #[cycle(term)]
-fn match_body(alloc: Global, room: usize, text: &str, at: usize) -> Result<(Vec<Arm>, usize), Halt>
+fn match_body(
+    alloc: Global,
+    room: usize,
+    deep: usize,
+    text: &str,
+    at: usize,
+) -> Result<(Vec<Arm>, usize), Halt>
     requires { IsCharBoundary text.now at }
     ensures reads { Reads (λ v. map case_of v.items) (body_of_match (term room text.now) text.now at) result }
     ensures end { IfOk result (λ p. IsEnd text.now at p.1) }
@@ -436,7 +476,7 @@ fn match_body(alloc: Global, room: usize, text: &str, at: usize) -> Result<(Vec<
 {
     let word = word_at("with", text, at)?;
     let open = sign_at('[', text, word)?;
-    let (arms, last) = optional_arms(alloc, room, text, open)?;
+    let (arms, last) = optional_arms(alloc, room, deep, text, open)?;
     let end = sign_at(']', text, last)?;
     Ok((arms, end))
 }
@@ -446,6 +486,7 @@ fn match_body(alloc: Global, room: usize, text: &str, at: usize) -> Result<(Vec<
 fn optional_arms(
     alloc: Global,
     room: usize,
+    deep: usize,
     text: &str,
     at: usize,
 ) -> Result<(Vec<Arm>, usize), Halt>
@@ -455,24 +496,32 @@ fn optional_arms(
     ensures stop { IfErr result (StopsInText text.now) }
 {
     if sees_name(text, at) {
-        arms(alloc, room, text, at)
+        arms(alloc, room, deep, text, at)
     } else {
         Ok((Vec::new(alloc), at))
     }
 }
 
 #[cycle(term)]
-fn arms(alloc: Global, room: usize, text: &str, at: usize) -> Result<(Vec<Arm>, usize), Halt>
+fn arms(
+    alloc: Global,
+    room: usize,
+    deep: usize,
+    text: &str,
+    at: usize,
+) -> Result<(Vec<Arm>, usize), Halt>
     requires { IsCharBoundary text.now at }
     ensures reads { Reads (λ v. map case_of v.items) (separated 124 text.now (arm (term room text.now) text.now) at) result }
     ensures end { IfOk result (λ p. (at ≤ p.1) × IsCharBoundary text.now p.1) }
     ensures stop { IfErr result (StopsInText text.now) }
 {
     let mut arms = Vec::new(alloc);
-    let (first, mut end) = arm(alloc, room, text, at)?;
+    let (first, mut end) = arm(alloc, room, deep, text, at)?;
     push_arm(&mut arms, first)?;
+    let mut deep = deep;
     'row: while sees_sign('|', text, end) {
-        let (arm, last) = next_arm(alloc, room, text, end)?;
+        deep = deeper(deep)?;
+        let (arm, last) = next_arm(alloc, room, deep, text, end)?;
         push_arm(&mut arms, arm)?;
         end = last;
     }
@@ -488,19 +537,25 @@ fn push_arm(items: &mut Vec<Arm>, arm: Arm) -> Result<(), AllocError>
 
 // `"|" arm`.
 #[cycle(term)]
-fn next_arm(alloc: Global, room: usize, text: &str, at: usize) -> Result<(Arm, usize), Halt>
+fn next_arm(
+    alloc: Global,
+    room: usize,
+    deep: usize,
+    text: &str,
+    at: usize,
+) -> Result<(Arm, usize), Halt>
     requires { IsCharBoundary text.now at }
     ensures reads { Reads case_of (led 124 text.now (arm (term room text.now) text.now) at) result }
     ensures end { IfOk result (λ p. IsEnd text.now at p.1) }
     ensures stop { IfErr result (StopsInText text.now) }
 {
     let bar = sign_at('|', text, at)?;
-    arm(alloc, room, text, bar)
+    arm(alloc, room, deep, text, bar)
 }
 
 // `name { x } "⇒" term`.
 #[cycle(term)]
-fn arm(alloc: Global, room: usize, text: &str, at: usize) -> Result<(Arm, usize), Halt>
+fn arm(alloc: Global, room: usize, deep: usize, text: &str, at: usize) -> Result<(Arm, usize), Halt>
     requires { IsCharBoundary text.now at }
     ensures reads { Reads case_of (arm (term room text.now) text.now at) result }
     ensures end { IfOk result (λ p. IsEnd text.now at p.1) }
@@ -509,7 +564,7 @@ fn arm(alloc: Global, room: usize, text: &str, at: usize) -> Result<(Arm, usize)
     let (name, after_name) = name_at(alloc, text, at)?;
     let (binders, after_binders) = binders_at(alloc, text, after_name)?;
     let sign = sign_at('⇒', text, after_binders)?;
-    let (body, end) = term(alloc, room, text, sign)?;
+    let (body, end) = term(alloc, room, deep, text, sign)?;
     Ok((
         Arm {
             name,

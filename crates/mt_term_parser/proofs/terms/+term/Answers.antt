@@ -14,7 +14,7 @@ arguments-row-init t c = record {
 
 pub arguments-returns-in_err-arg-clause-reads : goal.arguments-returns-in_err-arg-clause-reads
 arguments-returns-in_err-arg-clause-reads t c =
-    let p = err_from_is_err_and c.from_residual.result c.from_residual.ensures.1 in
+    let p = err_from_is_err_and c.from_residual-in_err-arg.result c.from_residual-in_err-arg.ensures.1 in
     let h = Row-halts _ _ _ _ _ _ c.in_err-arg.field-0.0 c.row.invariant.row (sym c.sees_argument.ensures.value ∙ c.row-test.true) (c.sees_argument.ensures.inside c.row-test.true) c.in_err-arg.ensures.reads in
     rw (p.1, p.2) h
 
