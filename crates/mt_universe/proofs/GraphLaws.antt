@@ -271,16 +271,17 @@ module _ (cs : Constraints) (i : ℕ) (low high : ℕ) (D : ℕ → ℕ → ℕ)
 -- Back to the constraints before the newest is back to the graph before it.
 take_named : (names : List Bytes) (x : Bytes) (n : ℕ) → n ≤ length names → take n (named names x) ≡ take n names
 take_named names x n le =
-  elim (cases_lt (number_or_next names x) (length names)) [
-    inl p ↦ ap (take n) (named_again names x p)
-  | inr p ↦ ap (take n) (named_new names x p) ∙ take-append-le n names (x ∷ []) le ]
+    elim (cases_lt (number_or_next names x) (length names)) [
+      | inl p ↦ ap (take n) (named_again names x p)
+      | inr p ↦ ap (take n) (named_new names x p) ∙ take-append-le n names (x ∷ []) le
+    ]
 
 pub as_at_declared : (g : Universes) (a b : Bytes) → named_in g.below ≡ length g.names → as_at (declared g a b) (length g.below) ≡ g
 as_at_declared g a b numbered =
-  let first = named g.names a in
-  let more = length-named g.names a in
-  let below : take (length g.below) (declared g a b).below ≡ g.below = take-append_seam g.below _ in
-  let names : take (named_in (take (length g.below) (declared g a b).below)) (named first b) ≡ g.names =
+    let first = named g.names a in
+    let more = length-named g.names a in
+    let below : take (length g.below) (declared g a b).below ≡ g.below = take-append_seam g.below _ in
+    let names : take (named_in (take (length g.below) (declared g a b).below)) (named first b) ≡ g.names =
     ap (λ cs. take (named_in cs) (named first b)) below ∙ ap (λ n. take n (named first b)) numbered
-      ∙ take_named first b (length g.names) (omega arith) ∙ take_named g.names a (length g.names) (omega arith) ∙ take-length g.names in
-  λ i. record { names = names i; below = below i }
+    ∙ take_named first b (length g.names) (omega arith) ∙ take_named g.names a (length g.names) (omega arith) ∙ take-length g.names in
+    λ i. record { names = names i; below = below i }
