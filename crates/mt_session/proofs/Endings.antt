@@ -7,8 +7,8 @@ use Rattle.std.proofs.lemmas.Bool.Decides.{nat_tests}
 use Rattle.std.specs.Io.KnownBytes.{Appends}
 use Rattle.std.proofs.KnownBytes.{Appends-nil}
 use Rattle.mt_text.specs.Causes.{AppendsPrefix}
-use Rattle.mt_session.specs.declared.serving.Status.TheVariants.{Done, Refused, BadFrame}
-use Rattle.mt_session.specs.Runs.{run, run_text, cost, is_clean, is_script, output_of, status_of, charges_of, most}
+use Rattle.mt_session.specs.declared.serving.Status.TheVariants.{Done, Refused, BadFrame, TooLong}
+use Rattle.mt_session.specs.Runs.{run, run_text, cost, is_clean, is_too_long, is_script, output_of, script_status, status_of, charges_of, most}
 
 pub script_short : (b : List ℕ) → length b ≤ most → is_script b ≡ is_utf8 b
 script_short b le = let e : nat_lt most (length b) ≡ false = grind (arith, nat_tests) in ap (λ t. if t then false else is_utf8 b) e
@@ -17,16 +17,26 @@ pub script_long : (b : List ℕ) → most < length b → is_script b ≡ false
 script_long b lt = let e : nat_lt most (length b) ≡ true = grind (arith, nat_tests) in ap (λ t. if t then false else is_utf8 b) e
 
 -- bytes that are no script
-pub bad_status : (b : List ℕ) → is_script b ≡ false → BadFrame ≡ status_of b
-bad_status b e = sym (ap (λ t. if t then (if is_clean (run b).fault then Done else Refused) else BadFrame) e)
+pub long_status : (b : List ℕ) → most < length b → TooLong ≡ status_of b
+long_status b lt =
+    let e : is_too_long b ≡ true = grind (arith, nat_tests) in
+    sym (ap (λ t. if t then TooLong else (if is_utf8 b then script_status b else BadFrame)) e)
+
+pub short_status : (b : List ℕ) → length b ≤ most → status_of b ≡ (if is_utf8 b then script_status b else BadFrame)
+short_status b le =
+    let e : is_too_long b ≡ false = grind (arith, nat_tests) in
+    ap (λ t. if t then TooLong else (if is_utf8 b then script_status b else BadFrame)) e
+
+pub bad_status : (b : List ℕ) → length b ≤ most → is_utf8 b ≡ false → BadFrame ≡ status_of b
+bad_status b le e = sym (short_status b le ∙ ap (λ t. if t then script_status b else BadFrame) e)
 
 pub bad_output : (b : List ℕ) (a : Option (List ℕ)) → is_script b ≡ false → Appends a a (output_of b)
 bad_output b a e = subst (Appends a a) (sym (ap (λ t. if t then run_text b (run b) else []) e)) (Appends-nil a)
 
 -- a script
-pub good_status : (b : List ℕ) (clean : Bool) → is_script b ≡ true → clean ≡ is_clean (run b).fault → (if clean then Done else Refused) ≡ status_of b
-good_status b clean e c =
-    ap (λ t. if t then Done else Refused) c ∙ sym (ap (λ t. if t then (if is_clean (run b).fault then Done else Refused) else BadFrame) e)
+pub good_status : (b : List ℕ) (clean : Bool) → length b ≤ most → is_utf8 b ≡ true → clean ≡ is_clean (run b).fault → (if clean then Done else Refused) ≡ status_of b
+good_status b clean le e c =
+    ap (λ t. if t then Done else Refused) c ∙ sym (short_status b le ∙ ap (λ t. if t then script_status b else BadFrame) e)
 
 pub good_output : (b text : List ℕ) → is_script b ≡ true → text ≡ run_text b (run b) → text ≡ output_of b
 good_output b text e t = t ∙ sym (ap (λ t. if t then run_text b (run b) else []) e)
@@ -66,5 +76,8 @@ false_from false f = refl
 pub text_is_script : (b : List ℕ) → IsUtf8 b → length b ≤ most → is_script b ≡ true
 text_is_script b u le = script_short b le ∙ is_utf8-from_IsUtf8 b u
 
+pub other_is_bad : (b : List ℕ) → ¬ (IsUtf8 b) → is_utf8 b ≡ false
+other_is_bad b wrong = false_from (is_utf8 b) (λ t. wrong (IsUtf8-from_is_utf8 b t))
+
 pub other_is_none : (b : List ℕ) → ¬ (IsUtf8 b) → length b ≤ most → is_script b ≡ false
-other_is_none b wrong le = script_short b le ∙ false_from (is_utf8 b) (λ t. wrong (IsUtf8-from_is_utf8 b t))
+other_is_none b wrong le = script_short b le ∙ other_is_bad b wrong

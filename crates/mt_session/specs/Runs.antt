@@ -8,7 +8,7 @@ use Rattle.mt_term.specs.Charges.{Outcome, Done, Refused, Spent}
 use Rattle.mt_term.specs.KernelCheck.{check, check_type}
 use Rattle.mt_kernel.specs.Answers.{charge_of}
 use Rattle.mt_session.specs.declared.serving.Status.{Status}
-use Rattle.mt_session.specs.declared.serving.Status.TheVariants.{Done as RunDone, Refused as RunRefused, BadFrame}
+use Rattle.mt_session.specs.declared.serving.Status.TheVariants.{Done as RunDone, Refused as RunRefused, BadFrame, TooLong}
 use Rattle.mt_session.specs.Units.{Reading, Got, Lacks, Item, AUnit, AtEnd, unit, names_of}
 use Rattle.mt_session.specs.Known.{alone}
 use Rattle.mt_session.specs.Columns.{column_of}
@@ -100,16 +100,23 @@ is_clean (Some f) = false
 abbrev pub most : ℕ
 most = 1048576
 
+-- whether there are more bytes than a script may have
+abbrev pub is_too_long : Bytes → Bool
+is_too_long bytes = nat_lt most (length bytes)
+
 -- whether the bytes are a script
 abbrev pub is_script : Bytes → Bool
-is_script bytes = if nat_lt most (length bytes) then false else is_utf8 bytes
+is_script bytes = if is_too_long bytes then false else is_utf8 bytes
 
 -- what is written for an input, the status, and the charges
 abbrev pub output_of : Bytes → Bytes
 output_of bytes = if is_script bytes then run_text bytes (run bytes) else []
 
+abbrev pub script_status : Bytes → Status
+script_status bytes = if is_clean (run bytes).fault then RunDone else RunRefused
+
 abbrev pub status_of : Bytes → Status
-status_of bytes = if is_script bytes then (if is_clean (run bytes).fault then RunDone else RunRefused) else BadFrame
+status_of bytes = if is_too_long bytes then TooLong else (if is_utf8 bytes then script_status bytes else BadFrame)
 
 abbrev pub charges_of : Bytes → ℕ
 charges_of bytes = if is_script bytes then cost bytes else 0

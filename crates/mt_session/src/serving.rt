@@ -7,7 +7,7 @@ ghost use Rattle.mt_term.specs.SoundEnvironment.{SoundEnvironment};
 ghost use Rattle.mt_session.specs.Known.{alone};
 ghost use Rattle.mt_session.specs.declared.serving.ReadStop.TheVariants.{OutOfMemory};
 ghost use Rattle.mt_session.specs.Runs.{output_of, status_of, charges_of, run_from, most};
-ghost use Rattle.mt_session.specs.Served.{IsWhole, IsCut, IsUnread, IsAnswer, code_of};
+ghost use Rattle.mt_session.specs.Served.{GivesAtMost, IsWhole, IsCut, IsUnread, IsAnswer, code_of};
 
 use crate::running::{Report, run_script};
 use mt_term::OutOfMemory;
@@ -23,8 +23,10 @@ pub enum Status {
     Refused,
     /// The words are not of the form.
     Usage,
-    /// The input is no script.
+    /// The script is not UTF-8.
     BadFrame,
+    /// The input has more bytes than a script may have.
+    TooLong,
     /// The source failed.
     ReadFault,
     /// The sink failed.
@@ -43,6 +45,7 @@ impl Status {
             Status::Refused => 1,
             Status::Usage => 2,
             Status::BadFrame => 3,
+            Status::TooLong => 4,
             Status::ReadFault => 5,
             Status::WriteFault => 6,
             Status::OutOfMemory => 7,
@@ -67,10 +70,12 @@ pub fn serve<I: Source, O: Sink, L: Ledger>(
     ensures whole { IsWhole result → IfSome (I.left input.old) (λ bytes.
         (result ≡ status_of bytes) × Appends (O.got output.old) (O.got output.new) (output_of bytes)) }
 
-    // A run that is cut off wrote a prefix of it, and one whose source failed wrote nothing.
+    // A run that is cut off wrote a prefix of it, and one whose source failed wrote nothing,
+    // and its source gave no more than a script may have.
     ensures cut { IsCut result → IfSome (I.left input.old) (λ bytes.
         AppendsPrefix (O.got output.old) (O.got output.new) (output_of bytes)) }
     ensures nothing { result ≡ Status.ReadFault → Keeps (O.got output.old) (O.got output.new) }
+    ensures given { result ≡ Status.ReadFault → GivesAtMost most (I.left input.old) (I.left input.new) }
 
     // Where the source tells its bytes, a whole run has taken the steps that its units cost, and any other has taken no more.
     ensures charges { IsWhole result → IfSome (I.left input.old) (λ bytes. steps.new ≡ steps.old + charges_of bytes) }
@@ -89,7 +94,7 @@ pub fn serve<I: Source, O: Sink, L: Ledger>(
     }
     match read_script(alloc, input) {
         Ok(script) => answer(alloc, &script, output, steps),
-        Err(ReadStop::TooLong) => Status::BadFrame,
+        Err(ReadStop::TooLong) => Status::TooLong,
         Err(ReadStop::ReadFault) => Status::ReadFault,
         Err(ReadStop::OutOfMemory) => Status::OutOfMemory,
     }
@@ -180,6 +185,7 @@ fn read_script<I: Source>(alloc: Global, input: &mut I) -> Result<Vec<u8>, ReadS
     ensures bytes { IfOk result (λ v. IfSome (I.left input.old) (λ bytes. v.items ≡ bytes)) }
     ensures short { IfOk result (λ v. length v.items ≤ most) }
     ensures long { IsErrOf result ReadStop.TooLong → IfSome (I.left input.old) (λ bytes. most < length bytes) }
+    ensures given { IsErrOf result ReadStop.ReadFault → GivesAtMost most (I.left input.old) (I.left input.new) }
     ensures cause { IsErrOf result ReadStop.ReadFault → Rose (I.faults input.old) (I.faults input.new) }
 {
     let mut script = Vec::new(alloc);

@@ -22,15 +22,16 @@ fn counted<L: Ledger, I: Source, O: Sink>(
     serve(alloc, words, input, output, &mut steps)
 }
 
-// Serves a script from memory, in pieces, to a sink whose listed writes fail.
+// Serves a script from memory, in pieces. The listed reads and writes fail.
 fn served(
     alloc: Global,
     words: &[String],
     script: &[u8],
-    failing: &[u64],
+    reads: &[u64],
+    writes: &[u64],
 ) -> Result<(Status, MemorySink), Fail> {
-    let mut input = MemorySource::new(script.to_vec(alloc)?, 3, Vec::new(alloc));
-    let mut output = MemorySink::new(alloc, 4096, 7, failing.to_vec(alloc)?)?;
+    let mut input = MemorySource::new(script.to_vec(alloc)?, 3, reads.to_vec(alloc)?);
+    let mut output = MemorySink::new(alloc, 4096, 7, writes.to_vec(alloc)?)?;
     let status = counted::<PlainLedger, _, _>(alloc, words, &mut input, &mut output, Blank::new(1));
     Ok((status, output))
 }
@@ -66,7 +67,7 @@ fn each_script_has_its_output_and_status(rt: HostRuntime) -> Result<(), Fail> {
         ),
     ];
     for (script, wanted, text) in &cases {
-        let (status, output) = served(alloc, &[], script.as_bytes(), &[])?;
+        let (status, output) = served(alloc, &[], script.as_bytes(), &[], &[])?;
         assert_eq!(rt; status, *wanted);
         assert_eq!(rt; output.bytes(), text.as_bytes());
     }
@@ -76,15 +77,19 @@ fn each_script_has_its_output_and_status(rt: HostRuntime) -> Result<(), Fail> {
 #[test]
 fn other_endings_have_their_status(rt: HostRuntime) -> Result<(), Fail> {
     let alloc = rt.alloc();
-    let (status, output) = served(alloc, &[], b"axiom \xff", &[])?;
+    let (status, output) = served(alloc, &[], b"axiom \xff", &[], &[])?;
     assert_eq!(rt; status, Status::BadFrame);
     assert_eq!(rt; output.bytes().len(), 0);
-    let (status, output) = served(alloc, &[], b"", &[0])?;
+    let (status, output) = served(alloc, &[], b"axiom a : Prop.", &[2], &[])?;
+    assert_eq!(rt; status, Status::ReadFault);
+    assert_eq!(rt; status.code(), 5);
+    assert_eq!(rt; output.bytes().len(), 0);
+    let (status, output) = served(alloc, &[], b"", &[], &[0])?;
     assert_eq!(rt; status, Status::WriteFault);
     assert_eq!(rt; status.code(), 6);
     assert_eq!(rt; output.bytes().len(), 0);
     let word = String::from_str(alloc, "run")?;
-    let (status, output) = served(alloc, &[word], b"", &[])?;
+    let (status, output) = served(alloc, &[word], b"", &[], &[])?;
     assert_eq!(rt; status, Status::Usage);
     assert_eq!(rt; output.bytes().len(), 0);
     Ok(())
