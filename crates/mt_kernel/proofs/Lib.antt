@@ -1,4 +1,4 @@
-pub mod PlainSorts
+pub mod Rows
 pub mod Verdicts
 pub mod Unfolding
 pub mod Apart

@@ -1,5 +1,5 @@
 -- What a constant on arguments becomes, by the entry that the program holds.
-use Rattle.std.proofs.Common.{ℕ, ◌≡◌, Bool, List, Option, Some, None, slice_get}
+use Rattle.std.proofs.Common.{ℕ, ◌≡◌, Bool, List, Some, None, slice_get}
 use Rattle.mt_term.specs.Trees.{Bytes, Tree, Trees, Const}
 use Rattle.mt_term.specs.Substitution.{apps}
 use Rattle.mt_term.specs.Declarations.{Constructor, Axiom, Definition, Inductive}

@@ -1,5 +1,5 @@
 -- What the kernel says on an outcome, and what it charges.
-use Rattle.std.proofs.Common.{ℕ, ◌≡◌, ◌≤◌, ◌-◌, ap, refl, arith}
+use Rattle.std.proofs.Common.{ℕ, ◌≡◌, ◌-◌, ap, refl, arith}
 use Rattle.mt_term.specs.Charges.{Outcome, Done, Refused, Spent as Spends, rest}
 use Rattle.mt_term.specs.Declarations.{Reason}
 use Rattle.mt_term.proofs.InferenceLaws.{check-rest, check_type-rest}

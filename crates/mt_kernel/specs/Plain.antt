@@ -1,13 +1,11 @@
--- The terms that the kernel checks so far: no match, inductive type, constructor, metavariable or universe name stands in them.
-use Rattle.std.specs.Prelude.{◌≡◌, ℕ, [], Some, slice_get}
+-- The terms that the kernel checks so far: no match, inductive type, constructor or metavariable stands in them.
+use Rattle.std.specs.Prelude.{◌≡◌, ℕ, Some, slice_get}
 use Rattle.mt_term.specs.Trees.{Tree, Var, Sort, Prod, Lam, App, Const}
 use Rattle.mt_term.specs.Declarations.{Declaration, Axiom, Definition, Environment}
-use Rattle.mt_term.specs.declared.universes.Sort.TheVariants.{Prop, Typ}
 
 abbrev pub IsPlain : Tree → Type 0
 IsPlain (Var i) = Unit {0}
-IsPlain (Sort Prop) = Unit {0}
-IsPlain (Sort (Typ u)) = u.atoms ≡ []
+IsPlain (Sort s) = Unit {0}
 IsPlain (Prod x a b) = IsPlain a × IsPlain b
 IsPlain (Lam x a b) = IsPlain a × IsPlain b
 IsPlain (App f a) = IsPlain f × IsPlain a
@@ -19,7 +17,6 @@ IsPlainEntry (Axiom x t) = IsPlain t
 IsPlainEntry (Definition x t b) = IsPlain t × IsPlain b
 IsPlainEntry _ = ⊥
 
--- axioms and definitions over such terms, without constraints on universes
+-- axioms and definitions over such terms
 pub record IsPlainEnv (E : Environment) : Type 0 where
   pub entries : (n : ℕ) (d : Declaration) → slice_get E.entries n ≡ Some d → IsPlainEntry d
-  pub below : E.below ≡ []

@@ -26,7 +26,6 @@ pub fn convert<L: Ledger>(
     deep: usize,
     steps: &mut Steps<L>,
 ) -> Result<bool, Stop>
-    requires below { env.now.below ≡ [] }
     ensures answer { Answers (λ b. b) (convert (environment_of env.now) no_store mode (tree_of t.now) (tree_of u.now) left.old) left.new result }
     ensures cost { steps.new + left.new ≡ steps.old + left.old }
 {
@@ -54,14 +53,13 @@ fn same_heads<L: Ledger>(
     deep: usize,
     steps: &mut Steps<L>,
 ) -> Result<bool, Stop>
-    requires below { env.now.below ≡ [] }
     ensures answer { Answers (λ b. b) (heads (environment_of env.now) no_store mode (tree_of t.now) (tree_of u.now) left.old) left.new result }
     ensures cost { steps.new + left.new ≡ steps.old + left.old }
 {
     let _left = *left;
     let deep = deeper(deep)?;
     match (t, u) {
-        (Term::Sort(s), Term::Sort(r)) => Ok(sorts_fit(mode, s, r)?),
+        (Term::Sort(s), Term::Sort(r)) => Ok(sorts_fit(alloc, &env.below, mode, s, r)?),
         (Term::Prod(_, a, b), Term::Prod(_, c, d)) => {
             if !convert(alloc, env, Mode::Equal, a, c, left, deep, steps)? {
                 return Ok(false);
@@ -93,7 +91,6 @@ fn same_spine<L: Ledger>(
     deep: usize,
     steps: &mut Steps<L>,
 ) -> Result<bool, Stop>
-    requires below { env.now.below ≡ [] }
     ensures answer { Answers (λ b. b) (spines (environment_of env.now) no_store (tree_of t.now) (tree_of u.now) left.old) left.new result }
     ensures cost { steps.new + left.new ≡ steps.old + left.old }
 {

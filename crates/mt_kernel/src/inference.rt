@@ -43,7 +43,6 @@ pub fn infer<L: Ledger>(
     deep: usize,
     steps: &mut Steps<L>,
 ) -> Result<Term, Stop>
-    requires below { env.now.below ≡ [] }
     ensures answer { Answers tree_of (infer (environment_of env.now) no_store (hypotheses_of context.now) (tree_of t.now) left.old) left.new result }
     ensures cost { steps.new + left.new ≡ steps.old + left.old }
 {
@@ -133,7 +132,6 @@ pub fn sort_of<L: Ledger>(
     deep: usize,
     steps: &mut Steps<L>,
 ) -> Result<Sort, Stop>
-    requires below { env.now.below ≡ [] }
     ensures answer { Answers (λ s. s) (sort_of (environment_of env.now) no_store (hypotheses_of context.now) (tree_of t.now) left.old) left.new result }
     ensures cost { steps.new + left.new ≡ steps.old + left.old }
 {
@@ -154,7 +152,6 @@ fn product_of<L: Ledger>(
     deep: usize,
     steps: &mut Steps<L>,
 ) -> Result<Product, Stop>
-    requires below { env.now.below ≡ [] }
     ensures answer { Answers held (product_of (environment_of env.now) no_store (hypotheses_of context.now) (tree_of t.now) left.old) left.new result }
     ensures cost { steps.new + left.new ≡ steps.old + left.old }
 {
@@ -231,7 +228,6 @@ pub fn agree<L: Ledger>(
     deep: usize,
     steps: &mut Steps<L>,
 ) -> Result<(), Stop>
-    requires below { env.now.below ≡ [] }
     ensures answer { Answers (λ a. a) (agreement (environment_of env.now) no_store (hypotheses_of context.now) mode (tree_of inferred) (tree_of expected.now) left.old) left.new result }
     ensures cost { steps.new + left.new ≡ steps.old + left.old }
 {

@@ -14,6 +14,7 @@ mod charges;
 mod comparison;
 mod contexts;
 mod inference;
+mod order;
 mod reduction;
 mod sorts;
 #[cfg(test)]
@@ -115,7 +116,6 @@ fn check_term<L: Ledger>(
     left: &mut u64,
     steps: &mut Steps<L>,
 ) -> Result<(), Stop>
-    requires below { env.now.below ≡ [] }
     ensures answer { Answers (λ a. a) (check (environment_of env.now) (tree_of term.now) (tree_of ty.now) left.old) left.new result }
     ensures cost { steps.new + left.new ≡ steps.old + left.old }
 {
@@ -142,7 +142,6 @@ fn check_sort<L: Ledger>(
     left: &mut u64,
     steps: &mut Steps<L>,
 ) -> Result<Sort, Stop>
-    requires below { env.now.below ≡ [] }
     ensures answer { Answers (λ s. s) (check_type (environment_of env.now) (tree_of ty.now) left.old) left.new result }
     ensures cost { steps.new + left.new ≡ steps.old + left.old }
 {

@@ -1,42 +1,30 @@
 // The order of sorts, the sort above one, and the sort of a product.
-ghost use Rattle.std.specs.Prelude.{◌≡◌, [], IfOk};
+ghost use Rattle.std.specs.Prelude.{◌≡◌, IfOk};
 ghost use Rattle.mt_term.specs.Comparison.{sorts_fit};
 ghost use Rattle.mt_term.specs.Universes.{sort_above, sort_of_product};
-ghost use Rattle.mt_term.specs.UniverseOrder.{at_most};
 
-use mt_term::{Atoms, Mode, OutOfMemory, Sort, UnivExpr, maximum, raised};
+use crate::order::at_most;
+use mt_term::{Atoms, Mode, OutOfMemory, Pairs, Sort, UnivExpr, maximum, raised};
 use std::alloc::Global;
-
-/// The base of an expression, which is its value where it has no name.
-fn value(u: &UnivExpr) -> Result<u32, OutOfMemory>
-    ensures { IfOk result (λ n. (n ≡ u.now.base) × (u.now.atoms ≡ [])) }
-{
-    if u.atoms.as_slice().is_empty() {
-        Ok(u.base)
-    } else {
-        Err(OutOfMemory)
-    }
-}
-
-#[tactic(auto, using(crate::proofs::PlainSorts::at_most_plain))]
-fn at_most(u: &UnivExpr, w: &UnivExpr) -> Result<bool, OutOfMemory>
-    ensures { IfOk result (λ b. b ≡ at_most [] u.now w.now) }
-{
-    Ok(value(u)? <= value(w)?)
-}
 
 /// Whether two sorts stand in the order of the mode.
 #[tactic(auto, unfolding(mt_term::specs::UniverseOrder::same))]
-pub fn sorts_fit(mode: Mode, s: &Sort, r: &Sort) -> Result<bool, OutOfMemory>
-    ensures { IfOk result (λ b. b ≡ sorts_fit [] mode s.now r.now) }
+pub fn sorts_fit(
+    alloc: Global,
+    below: &Pairs,
+    mode: Mode,
+    s: &Sort,
+    r: &Sort,
+) -> Result<bool, OutOfMemory>
+    ensures { IfOk result (λ b. b ≡ sorts_fit below.now mode s.now r.now) }
 {
     match (s, r) {
         (Sort::Prop, Sort::Prop) => Ok(true),
         (Sort::Prop, Sort::Typ(_)) => Ok(matches!(mode, Mode::AtMost)),
         (Sort::Typ(_), Sort::Prop) => Ok(false),
         (Sort::Typ(u), Sort::Typ(w)) => match mode {
-            Mode::Equal => Ok(at_most(u, w)? && at_most(w, u)?),
-            Mode::AtMost => at_most(u, w),
+            Mode::Equal => Ok(at_most(alloc, below, u, w)? && at_most(alloc, below, w, u)?),
+            Mode::AtMost => at_most(alloc, below, u, w),
         },
     }
 }

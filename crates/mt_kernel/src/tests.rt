@@ -6,7 +6,7 @@ ghost use Rattle.mt_term.specs.TreeOf.{tree_of};
 
 use crate::{Verdict, check, check_type};
 use mt_term::{
-    Atoms, Entries, Entry, Name, Names, OutOfMemory, Pairs, PlainEnv, Sort, Term, UnivExpr,
+    Atom, Atoms, Entries, Entry, Name, Names, OutOfMemory, Pairs, PlainEnv, Sort, Term, UnivExpr,
 };
 use mt_text::{Ledger, PlainLedger, Steps};
 use std::alloc::{AllocFailed, Global};
@@ -80,6 +80,7 @@ fn told(verdict: &Verdict) -> (u8, u64) {
 
 fn checked<L: Ledger>(
     alloc: Global,
+    env: &PlainEnv,
     term: &Term,
     ty: &Term,
     allowance: u64,
@@ -88,12 +89,12 @@ fn checked<L: Ledger>(
     requires name { blank.name ≡ L.name }
     requires parts { blank.parts ≡ L.parts }
     requires some { 0 < L.parts }
+    requires env { IsPlainEnv (environment_of env.now) }
     requires term { IsPlain (tree_of term.now) }
     requires ty { IsPlain (tree_of ty.now) }
 {
-    let env = empty(alloc);
     let mut steps = Steps::<L>::new(blank);
-    Ok(told(&check(alloc, &env, term, ty, allowance, &mut steps)?))
+    Ok(told(&check(alloc, env, term, ty, allowance, &mut steps)?))
 }
 
 fn type_checked<L: Ledger>(
@@ -116,7 +117,21 @@ fn says(alloc: Global, term: &Term, ty: &Term, allowance: u64) -> Result<(u8, u6
     requires term { IsPlain (tree_of term.now) }
     requires ty { IsPlain (tree_of ty.now) }
 {
-    checked::<PlainLedger>(alloc, term, ty, allowance, Blank::new(1))
+    says_in(alloc, &empty(alloc), term, ty, allowance)
+}
+
+fn says_in(
+    alloc: Global,
+    env: &PlainEnv,
+    term: &Term,
+    ty: &Term,
+    allowance: u64,
+) -> Result<(u8, u64), OutOfMemory>
+    requires env { IsPlainEnv (environment_of env.now) }
+    requires term { IsPlain (tree_of term.now) }
+    requires ty { IsPlain (tree_of ty.now) }
+{
+    checked::<PlainLedger>(alloc, env, term, ty, allowance, Blank::new(1))
 }
 
 fn says_of_type(alloc: Global, ty: &Term, allowance: u64) -> Result<(u8, u64), OutOfMemory>
@@ -130,6 +145,49 @@ fn a_universe_is_not_in_itself(rt: HostRuntime) -> Result<(), Fail> {
     let alloc = rt.alloc();
     assert_eq!(rt; says(alloc, &typ(alloc, 0), &typ(alloc, 0), 100)?, (7, 0));
     assert_eq!(rt; says(alloc, &typ(alloc, 0), &typ(alloc, 1), 100)?, (0, 3));
+    Ok(())
+}
+
+// `Type[x+k]`, where x has this number
+fn named(alloc: Global, name: usize, offset: u32) -> Result<Term, OutOfMemory>
+    ensures { IfOk result (λ t. IsPlain (tree_of t)) }
+{
+    let mut atoms = Atoms::new(alloc);
+    atoms.push(Atom { name, offset })?;
+    Ok(Term::Sort(Sort::Typ(UnivExpr { base: 0, atoms })))
+}
+
+// Three universes, each below the next.
+fn chain(alloc: Global) -> Result<PlainEnv, OutOfMemory>
+    ensures { IfOk result (λ env. IsPlainEnv (environment_of env)) }
+{
+    let mut below = Pairs::new(alloc);
+    below.push((1, 2))?;
+    below.push((0, 1))?;
+    Ok(PlainEnv {
+        entries: Entries::new(alloc),
+        names: Names::new(alloc),
+        below,
+    })
+}
+
+#[test]
+fn universes_are_compared_by_paths(rt: HostRuntime) -> Result<(), Fail> {
+    let alloc = rt.alloc();
+    let env = chain(alloc)?;
+    let lowest = named(alloc, 0, 0)?;
+    let highest = named(alloc, 2, 0)?;
+    let above = named(alloc, 0, 1)?;
+    assert_eq!(rt; says_in(alloc, &env, &lowest, &highest, 100)?, (0, 3));
+    assert_eq!(rt; says_in(alloc, &env, &highest, &above, 100)?, (7, 0));
+    assert_eq!(rt;
+        says_in(alloc, &env, &typ(alloc, 1), &highest, 100)?,
+        (0, 3)
+    );
+    assert_eq!(rt;
+        says_in(alloc, &env, &typ(alloc, 2), &highest, 100)?,
+        (7, 0)
+    );
     Ok(())
 }
 

@@ -1,4 +1,4 @@
-use Rattle.std.proofs.Common.{subst, sym, ap, ◌∙◌, ◌≡◌, ◌<◌, ◌-◌, false, arith}
+use Rattle.std.proofs.Common.{subst, sym, ap, ◌∙◌, ◌≡◌, ◌-◌, false}
 use Rattle.mt_term.specs.Alike.{is_alike}
 use Rattle.mt_term.specs.Charges.{Done}
 use Rattle.mt_term.specs.WeakHead.{whd}

@@ -1,0 +1,11 @@
+use Rattle.std.proofs.Common.{◌≡◌, ℕ, ◌≤◌, length, slice_index}
+use Rattle.mt_term.specs.Universes.{Valuation, MeetsAll}
+use Rattle.mt_kernel.specs.Rows.{IsBounded}
+use Rattle.mt_kernel.proofs.order.settle.Given as goal
+
+abbrev pub invariant-loop : goal.invariant-loop
+invariant-loop l = record {
+  size : length l.row.items ≡ length l.fn.row.items;
+  bound : (v : Valuation) (o : ℕ) → MeetsAll l.below v → IsBounded v o l.fn.row.items → IsBounded v o l.row.items;
+  grown : (b : ℕ) → slice_index l.fn.row.items b ≤ slice_index l.row.items b;
+}

@@ -1,0 +1,20 @@
+-- Rows: a number for each universe name, which constraints lengthen.
+use Rattle.std.specs.Prelude.{ℕ, ◌+◌, ◌<◌, ◌≤◌, List, slice_index}
+use Rattle.std.specs.List.{All}
+use Rattle.mt_term.specs.Universes.{Constraints, Valuation}
+
+-- where a row has a number, that many names from o on stand at most at the value
+abbrev pub IsBounded : Valuation → ℕ → List ℕ → Type 0
+IsBounded v o row = (b : ℕ) → 0 < slice_index row b → o + slice_index row b ≤ v b + 1
+
+-- a constraint does not lengthen the row
+abbrev pub Holds : List ℕ → ℕ × ℕ → Type 0
+Holds row c = 0 < slice_index row c.0 → slice_index row c.0 < slice_index row c.1
+
+-- no constraint lengthens the row
+abbrev pub IsSettled : Constraints → List ℕ → Type 0
+IsSettled cs row = All (Holds row) cs
+
+-- each name of the constraints has a place
+abbrev pub HasPlaces : Constraints → ℕ → Type 0
+HasPlaces cs n = All (λ c. (c.0 < n) × (c.1 < n)) cs
