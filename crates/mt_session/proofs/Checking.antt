@@ -30,8 +30,7 @@ environment_alone env n b = λ i. record { entries = env.entries; names = n i; b
 -- what the kernel asks of terms and of environments
 pub term_is_plain : (es : List Declaration) (t : Tree) → IsKnown es t → IsPlain t
 term_is_plain es (Const n) h = tt
-term_is_plain es (Sort Prop) h = tt
-term_is_plain es (Sort (Typ u)) h = h
+term_is_plain es (Sort s) h = tt
 term_is_plain es _ h = absurd h
 
 known_plain_entry : (es : List Declaration) (d : Declaration) → IsKnownEntry es d → IsPlainEntry d
@@ -39,8 +38,8 @@ known_plain_entry es (Axiom x T) h = term_is_plain es T h
 known_plain_entry es (Definition x T b) h = (term_is_plain es T h.0, term_is_plain es b h.1)
 known_plain_entry es _ h = absurd h
 
-pub environment_is_plain : (env : PlainEnv) → env.below ≡ [] → IsPlainEnv env.entries → IsChecked (environment_of env)
-environment_is_plain env b p = record { entries = λ n d e. known_plain_entry env.entries d (p n d e); below = b }
+pub environment_is_plain : (env : PlainEnv) → IsPlainEnv env.entries → IsChecked (environment_of env)
+environment_is_plain env p = record { entries = λ n d e. known_plain_entry env.entries d (p n d e) }
 
 module _ (env : PlainEnv) (x : Bytes) (T : Tree) (n : env.names ≡ []) (b : env.below ≡ []) where
   pub axiom_verdict : verdict_of 100000 (check_type (environment_of env) T 100000) ≡ verdict_of 100000 (kernel env.entries (Axiom x T))
