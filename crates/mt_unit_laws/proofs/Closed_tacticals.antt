@@ -16,8 +16,8 @@ use Rattle.mt_unit_parser.specs.declared.words.Lead.TheVariants as lead
 use Rattle.mt_unit_parser.specs.Units.{is_spelled, verb_of}
 use Rattle.mt_unit_parser.specs.Blocks.{lead_of_sign, lead_by, lead_of, begins_item, is_separator, Block', item_onto, led_onto, choices, placed, is_number_kind, positions, rest_of, pick_by, picked, branch, barred, branch_list, branches, is_dot, separator, unfocus_place, focus, item_by, optional_by, optional_item, separated_by, led_item, items, ends_sequence, full_at, sequence}
 use Rattle.mt_unit_laws.proofs.Tokens.{Stands, Next, next-stands}
-use Rattle.mt_unit_laws.proofs.Texts.{Front, Closed, SameToken, Again, again}
-use Rattle.mt_unit_laws.proofs.Local.{Near, Local, Needed, needed-is, near-token, local-got, local-stop, local-to, local-weaker, local-under, local-then, local-token, local-pass, local-row}
+use Rattle.mt_unit_laws.proofs.Texts.{Front, Closed, SameToken, one-text, Again, again}
+use Rattle.mt_unit_laws.proofs.Local.{Near, Local, Needed, needed-is, near-token, local-got, local-stop, local-needed, local-to, local-weaker, local-under, local-then, local-token, local-pass, local-row}
 use Rattle.mt_unit_laws.proofs.Terms.{sign-same, sign-local, row-of-sign}
 use Rattle.mt_unit_laws.proofs.Commands.{is_spelled-same, nums-local, verb-same, action-local}
 
@@ -73,6 +73,7 @@ local-start {f = f} {k = k} at t is some l =
           let b : n.token.start < f.n = n.early in
           record { token = t; next = is; early = omega arith };
       same = λ d c v x end e near. l.same d c (next v).begins x end e near;
+      halts = λ q d v why place e. l.halts q d (next v).begins why place e;
     }
 
 local-end : {A : Type 0} {f : Front} {S : Type 0} {k : ℕ} (at : ℕ) (t : Token) {r s : Reading A} → next_token f.first at ≡ Ok t → t.kind ≢ kind.End
@@ -84,6 +85,7 @@ local-end {f = f} {k = k} at t is some l =
       stays = λ v x end e. l.stays (next v).ends x end e;
       back = λ v x end e near. near-token f at t is ((next v).some some) (next v).ends (l.back (next v).ends x end e near);
       same = λ d c v x end e near. l.same d c (next v).ends x end e near;
+      halts = λ q d v why place e. l.halts q d (next v).ends why place e;
     }
 
 -- what is read by the next token, if there is one
@@ -95,6 +97,7 @@ local-peek-by {f = f} {at = at} G H none some None e = record {
   stays = none.stays;
   back = none.back;
   same = λ d c v x end q near. ap H (seen-same f at c v (none.back v x end q near) ∙ e) ∙ none.same tt c v x end q near;
+  halts = λ q d v why place h. none.halts q tt v why place h;
 }
 local-peek-by {f = f} {at = at} G H none some (Some t) e =
     let k : Seen (next_token f.first at) t = seen-is (next_token f.first at) t e in
@@ -109,6 +112,7 @@ local-peek-by {f = f} {at = at} G H none some (Some t) e =
           let early : t.start < f.n = subst (λ (u : Token). u.start < f.n) same_token n.early in
           let a : Again f at t = again f at t c v k.is early in
           ap H (seen-same f at c v n ∙ e) ∙ l.same a.token c v x end q near;
+      halts = λ o d v why place h. l.halts o (one-text f t o (next-stands f.first at t v k.is).begins) v why place h;
     }
 
 local-peek : {A : Type 0} {f : Front} {S : Type 0} {at : ℕ} (G H : Option Token → Reading A) → Local f (Unit {0}) 0 at (G None) (H None)
@@ -132,8 +136,9 @@ local-look-by {f = f} {at = at} {h = h} m (Got t e) q =
           let early : t.start < f.n = subst (λ (u : Token). u.start < f.n) same_token n.early in
           let a : Again f at t = again f at t c v k.is early in
           ap (λ (r : Reading Token). then_read r (λ t _. h t)) (ap needed_from (a.same ∙ sym k.is) ∙ q) ∙ l.same a.token c v x end p near;
+      halts = λ o d v why place h. l.halts o (one-text f t o (next-stands f.first at t v k.is).begins) v why place h;
     }
-local-look-by {f = f} {at = at} {h = h} m (Stops reason place) q = local-stop reason place (then_read (needed f.second at) (λ t _. h t))
+local-look-by {f = f} {at = at} {h = h} m (Stops reason place) q = local-needed reason place q (then_read (needed f.second at) (λ t _. h t))
 
 local-look : {B : Type 0} {f : Front} {S : Type 0} {at : ℕ} {g h : Token → Reading B} → ((t : Token) → Local f (SameToken f t) 0 at (g t) (h t))
     → Local f S 0 at (then_read (needed f.first at) (λ t _. g t)) (then_read (needed f.second at) (λ t _. h t))
@@ -204,9 +209,9 @@ module _ (f : Front) (depth : ℕ) (ia ib : ℕ → Reading Block') (inner : (at
   item-by t lead.Skip = local-got (Skip t.start)
   item-by t lead.Open = branches-local t.start t.end
   item-by t lead.Focus = local-weaker (focus-local t.start t.end)
-  item-by t lead.Semicolon = local-stop Syntax t.start _
-  item-by t lead.Dot = local-stop Syntax t.start _
-  item-by t lead.Other = local-stop Syntax t.start _
+  item-by t lead.Semicolon = local-stop Syntax t.start (λ e. e.begins) _
+  item-by t lead.Dot = local-stop Syntax t.start (λ e. e.begins) _
+  item-by t lead.Other = local-stop Syntax t.start (λ e. e.begins) _
 
   optional-by : (at : ℕ) (t : Token) → next_token f.first at ≡ Ok t → t.kind ≢ kind.End → (l : Lead) (b : Bool)
       → Local f (SameToken f t) 0 at (cond b (then_read (item_by l depth ia f.first t) (λ s end. Got (Some s) end)) (Got None at))
@@ -232,7 +237,7 @@ module _ (f : Front) (depth : ℕ) (ia ib : ℕ → Reading Block') (inner : (at
 
 full-by : {f : Front} (at : ℕ) (t : Token) (b : Bool) (l l' : Lead) → Local f (SameToken f t) 0 at (cond b (Got End at) (full_at l t.start)) (cond b (Got End at) (full_at l' t.start))
 full-by at t true l l' = local-got End
-full-by at t false l l' = local-stop _ t.start _
+full-by at t false l l' = local-stop _ t.start (λ e. e.begins) _
 
 pub sequence-local : {f : Front} (room at : ℕ) → Local f (Unit {0}) 0 at (sequence room f.first at) (sequence room f.second at)
 sequence-local {f} zero at =

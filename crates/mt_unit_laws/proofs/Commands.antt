@@ -138,7 +138,7 @@ letting-by : {f : Front} (t : Token) (rec corec : Bool)
     (cond rec (recursion f.second t.end) (cond corec (corecursion f.second t.end) (Stops Syntax t.start)))
 letting-by t true corec = recursion-final
 letting-by t false true = corecursion-final
-letting-by t false false = final-stop Syntax t.start _
+letting-by t false false = final-stop Syntax t.start (λ e. e.begins) _
 
 pub letting-final : {f : Front} {S : Type 0} {at : ℕ} → Final f S at (letting f.first at) (letting f.second at)
 letting-final {f} =

@@ -15,8 +15,8 @@ use Rattle.mt_lexer.proofs.Shared_tokens.{width, token_at-shared}
 use Rattle.mt_term.specs.Declarations.{Reason, Syntax}
 use Rattle.mt_term_parser.specs.Readings.{Reading, Got, Stops, then_read, needed_from, needed, passed, word_of, sign_from, sign_by, sign_of, sign}
 use Rattle.mt_unit_laws.proofs.Tokens.{Stands, chars-stand, Cut, token-cut, Next, next-stands, width-append}
-use Rattle.mt_unit_laws.proofs.Texts.{closes, Front, Closed, SameToken, Again, again}
-use Rattle.mt_unit_laws.proofs.Local.{Near, Local, Needed, needed-is, near-token}
+use Rattle.mt_unit_laws.proofs.Texts.{closes, Front, Closed, SameToken, one-text, Again, again}
+use Rattle.mt_unit_laws.proofs.Local.{Near, Local, Needed, needed-is, needed-halts, near-token}
 use Rattle.mt_unit_laws.proofs.Terms.{sign-same}
 
 -- ---- a closing sign as a token
@@ -43,7 +43,7 @@ head-cons : (cs : List ℕ) (c : ℕ) → slice_index cs 0 ≡ c → 0 < c → (
 head-cons [] c e some = absurd (omega arith)
 head-cons (d ∷ ds) c e some = (ds, ap (λ x. x ∷ ds) e)
 
-closed-at : (text : List ℕ) (t : Token) (c : ℕ) (rest : List ℕ) (v : Stands text t.start) → IsTrue (is_closing c) → v.0 ≡ c ∷ rest → t.start < t.end → token_at t.start v.0 ≡ Ok t
+closed-at : (text : List ℕ) (t : Token) (c : ℕ) (rest : List ℕ) (v : Stands text t.start) → IsTrue (is_closing c) → v.utf8.0 ≡ c ∷ rest → t.start < t.end → token_at t.start v.utf8.0 ≡ Ok t
     → Closed text t.end
 closed-at text t c rest v h e order is =
     let small : c < 128 = (closes c h).small in
@@ -53,7 +53,7 @@ closed-at text t c rest v h e order is =
     let whole : width (c ∷ []) ≡ width cut.front + width cut.rest = ap width cut.whole ∙ width-append cut.front cut.rest in
     let end : t.end ≡ t.start + width cut.front = cut.end in
     let next : t.end ≡ t.start + 1 = omega arith in
-    let bytes : drop t.start text ≡ encode c ++ encodes rest = sym v.1.1 ∙ ap encodes e in
+    let bytes : drop t.start text ≡ encode c ++ encodes rest = sym v.utf8.1.1 ∙ ap encodes e in
     let byte : get_or text t.start 0 ≡ c = ap (λ i. get_or text i 0) (let z : t.start ≡ t.start + 0 = omega arith in z) ∙ sym (get_or-drop t.start text 0 0) ∙ byte_from_char (drop t.start text) (encodes rest) c bytes small in
     let inside : 1 ≤ length (drop t.start text) = let l = ap length bytes in let m = length-encode c in let b = (len_utf8_bounds c).0 in let a = length-append (encode c) (encodes rest) in omega arith in
     let long = length-drop t.start text in
@@ -70,7 +70,7 @@ closed-by text at t c n order h e =
     let some : 0 < c = elim (cases_eq 0 c) [ inl z ↦ absurd (not-zero c h z) | inr z ↦ omega arith ] in
     let v : Stands text t.start = n.begins in
     let cs = chars-stand text t.start v in
-    let first = head-cons v.0 c (sym (ap (λ xs. slice_index xs 0) cs) ∙ head) some in
+    let first = head-cons v.utf8.0 c (sym (ap (λ xs. slice_index xs 0) cs) ∙ head) some in
     closed-at text t c first.0 v h first.1 order (ap (token_at t.start) (sym cs) ∙ n.token_is)
 
 -- ---- readings
@@ -79,22 +79,26 @@ pub record Final {A : Type 0} (f : Front) (S : Type 0) (at : ℕ) (r s : Reading
   pub closed : Stands f.first at → (x : A) → r ≡ Got x f.n → Closed f.first f.n
   pub near : Stands f.first at → (x : A) → r ≡ Got x f.n → Near f at
   pub same : S → Closed f.first f.n → Stands f.first at → (x : A) → r ≡ Got x f.n → s ≡ Got x f.n
+  pub halts : f.first ≡ f.second → S → Stands f.first at → (reason : Reason) (place : ℕ) → r ≡ Stops reason place → Stands f.first place
 
-pub final-none : {A : Type 0} {f : Front} {S : Type 0} {at : ℕ} {r : Reading A} → ((x : A) (end : ℕ) → r ≡ Got x end → ⊥) → (s : Reading A) → Final f S at r s
-final-none {f = f} none s = record {
-  closed = λ v x e. absurd (none x f.n e);
-  near = λ v x e. absurd (none x f.n e);
-  same = λ d c v x e. absurd (none x f.n e);
+pub final-halt : {A : Type 0} {f : Front} {S : Type 0} {at : ℕ} (reason : Reason) (place : ℕ) → (f.first ≡ f.second → S → Stands f.first at → Stands f.first place) → (s : Reading A)
+    → Final f S at (Stops reason place) s
+final-halt {f = f} reason place there s = record {
+  closed = λ v x e. absurd (cc);
+  near = λ v x e. absurd (cc);
+  same = λ d c v x e. absurd (cc);
+  halts = λ q d v why at e. let p : place ≡ at = cc in subst (Stands f.first) p (there q d v);
 }
 
-pub final-stop : {A : Type 0} {f : Front} {S : Type 0} {at : ℕ} (reason : Reason) (place : ℕ) (s : Reading A) → Final f S at (Stops reason place) s
-final-stop reason place s = final-none (λ x end e. cc) s
+pub final-stop : {A : Type 0} {f : Front} {S : Type 0} {at : ℕ} (reason : Reason) (place : ℕ) → (S → Stands f.first place) → (s : Reading A) → Final f S at (Stops reason place) s
+final-stop reason place there s = final-halt reason place (λ q d v. there d) s
 
 pub final-to : {A : Type 0} {f : Front} {S : Type 0} {at : ℕ} {r s : Reading A} → Final f S at r s → (t : Reading A) → (S → s ≡ t) → Final f S at r t
 final-to l t e = record {
   closed = l.closed;
   near = l.near;
   same = λ d c v x q. sym (e d) ∙ l.same d c v x q;
+  halts = l.halts;
 }
 
 pub final-then : {A B : Type 0} {f : Front} {S : Type 0} {k at : ℕ} {r s : Reading A} {g h : A → ℕ → Reading B}
@@ -105,8 +109,9 @@ final-then {r = Got x e} {h = h} l m = record {
   same = λ d c v y q.
       let w = l.stays v x e refl in
       ap (λ p. then_read p h) (l.same d c v x e refl ((m x e).near w y q)) ∙ (m x e).same d c w y q;
+  halts = λ q d v why place p. (m x e).halts q d (l.stays v x e refl) why place p;
 }
-final-then {r = Stops reason place} {s = s} {h = h} l m = final-stop reason place (then_read s h)
+final-then {r = Stops reason place} {s = s} {h = h} l m = final-halt reason place (λ q d v. l.halts q d v reason place refl) (then_read s h)
 
 final-map-by : {A B : Type 0} {f : Front} {S : Type 0} {at : ℕ} (k : A → ℕ → B) (r s : Reading A) → Final f S at r s
     → Final f S at (then_read r (λ x end. Got (k x end) end)) (then_read s (λ x end. Got (k x end) end))
@@ -117,8 +122,9 @@ final-map-by {f = f} k (Got x e) s l =
       same = λ d c v y q.
           let p : e ≡ f.n = cc in
           ap (λ z. then_read z (λ x end. Got (k x end) end)) (l.same d c v x (ap (Got x) p)) ∙ ap (λ n. Got (k x n) n) (sym p) ∙ q;
+      halts = λ q d v why place h. absurd (cc);
     }
-final-map-by k (Stops reason place) s l = final-stop reason place _
+final-map-by k (Stops reason place) s l = final-halt reason place (λ q d v. l.halts q d v reason place refl) _
 
 pub final-map : {A B : Type 0} {f : Front} {S : Type 0} {at : ℕ} {r s : Reading A} (k : A → ℕ → B) → Final f S at r s
     → Final f S at (then_read r (λ x end. Got (k x end) end)) (then_read s (λ x end. Got (k x end) end))
@@ -140,8 +146,9 @@ final-token-by {f = f} {at = at} g h m (Got t e) q =
           let a : Again f at t = again f at t c v k.is early in
           ap (λ (r : Reading Token). then_read r h) (ap needed_from (a.same ∙ sym k.is) ∙ q) ∙ ap (h t) k.end
           ∙ (m t).same a.token c (next v).ends y (ap (g t) (sym k.end) ∙ p);
+      halts = λ o d v why place p. (m t).halts o (one-text f t o (next v).begins) (next v).ends why place (ap (g t) (sym k.end) ∙ p);
     }
-final-token-by {f = f} {at = at} g h m (Stops reason place) q = final-stop reason place (then_read (needed f.second at) h)
+final-token-by {f = f} {at = at} g h m (Stops reason place) q = final-halt reason place (λ o d v. needed-halts f.first at reason place v q) (then_read (needed f.second at) h)
 
 pub final-token : {B : Type 0} {f : Front} {S : Type 0} {at : ℕ} (g h : Token → ℕ → Reading B) → ((t : Token) → Final f (SameToken f t) t.end (g t t.end) (h t t.end))
     → Final f S at (then_read (needed f.first at) g) (then_read (needed f.second at) h)
@@ -165,15 +172,17 @@ final-pass-by {f = f} {at = at} p q val same sign t e is true b =
           let a : Again f at t = again f at t c v k.is (omega arith) in
           ap (λ (r : Reading Token). then_read r (λ t _. passed (q t) t (val t))) (ap needed_from (a.same ∙ sym k.is) ∙ is)
           ∙ ap (λ b. passed b t (val t)) (sym (same t a.token) ∙ b) ∙ h;
+      halts = λ o d v why place h. absurd (cc);
     }
-final-pass-by {f = f} {at = at} p q val same sign t e is false b = final-stop Syntax t.start _
+final-pass-by {f = f} {at = at} p q val same sign t e is false b =
+    final-halt Syntax t.start (λ o d v. (next-stands f.first at t v (needed-is (next_token f.first at) t e is).is).begins) _
 
 final-pass-of : {A : Type 0} {f : Front} {S : Type 0} {at : ℕ} (p q : Token → Bool) (val : Token → A) → ((t : Token) → SameToken f t → p t ≡ q t)
     → ((t : Token) → p t ≡ true → IsTrue (is_closing (sign_of f.first t)))
     → (r : Reading Token) → needed f.first at ≡ r
     → Final f S at (then_read r (λ t _. passed (p t) t (val t))) (then_read (needed f.second at) (λ t _. passed (q t) t (val t)))
 final-pass-of p q val same sign (Got t e) is = final-pass-by p q val same sign t e is (p t) refl
-final-pass-of p q val same sign (Stops reason place) is = final-stop reason place _
+final-pass-of {f = f} {at = at} p q val same sign (Stops reason place) is = final-halt reason place (λ o d v. needed-halts f.first at reason place v is) _
 
 -- a closing sign, with a value
 pub final-pass : {A : Type 0} {f : Front} {S : Type 0} {at : ℕ} (p q : Token → Bool) (val : Token → A) → ((t : Token) → SameToken f t → p t ≡ q t)

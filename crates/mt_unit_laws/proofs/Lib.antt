@@ -2,7 +2,8 @@ mod Closed_tacticals
 mod Commands
 mod Final
 mod Local
+mod Places
 mod Terms
 mod Texts
 mod Tokens
-pub mod Units
+mod Units

@@ -10,8 +10,8 @@ use Rattle.mt_lexer.specs.declared.LexStop.TheVariants as lex
 use Rattle.mt_lexer.specs.Tokens.{next_token}
 use Rattle.mt_term.specs.Declarations.{Reason, Syntax}
 use Rattle.mt_term_parser.specs.Readings.{Reading, Got, Stops, then_read, many, many_from, needed_token, needed_from, needed, passed, seen_token, seen_from, sees_by, sees}
-use Rattle.mt_unit_laws.proofs.Tokens.{Stands, Next, next-stands}
-use Rattle.mt_unit_laws.proofs.Texts.{Front, Closed, SameToken, Again, again, shared-length}
+use Rattle.mt_unit_laws.proofs.Tokens.{Stands, Next, next-stands, fault-stands}
+use Rattle.mt_unit_laws.proofs.Texts.{Front, Closed, SameToken, one-text, Again, again, shared-length}
 
 -- the next token begins before the end of the closing sign
 pub record Near (f : Front) (at : ℕ) : Type 0 where
@@ -25,6 +25,7 @@ pub record Local {A : Type 0} (f : Front) (S : Type 0) (k at : ℕ) (r s : Readi
   pub stays : Stands f.first at → (x : A) (end : ℕ) → r ≡ Got x end → Stands f.first end
   pub back : Stands f.first at → (x : A) (end : ℕ) → r ≡ Got x end → Near f end → Near f at
   pub same : S → Closed f.first f.n → Stands f.first at → (x : A) (end : ℕ) → r ≡ Got x end → Near f end → s ≡ Got x end
+  pub halts : f.first ≡ f.second → S → Stands f.first at → (reason : Reason) (place : ℕ) → r ≡ Stops reason place → Stands f.first place
 
 -- ---- simple readings
 
@@ -34,18 +35,17 @@ local-got {A} {f} {S} {at} x = record {
   stays = λ v y end e. let p : at ≡ end = cc in subst (Stands f.first) p v;
   back = λ v y end e near. let p : at ≡ end = cc in subst (Near f) (sym p) near;
   same = λ s c v y end e near. e;
+  halts = λ q d v reason place e. absurd (cc);
 }
 
-pub local-stops : {A : Type 0} {f : Front} {S : Type 0} {k at : ℕ} {r : Reading A} → ((x : A) (end : ℕ) → r ≡ Got x end → ⊥) → (s : Reading A) → Local f S k at r s
-local-stops none s = record {
-  moves = λ v y end e. absurd (none y end e);
-  stays = λ v y end e. absurd (none y end e);
-  back = λ v y end e near. absurd (none y end e);
-  same = λ d c v y end e near. absurd (none y end e);
+pub local-stop : {A : Type 0} {f : Front} {S : Type 0} {k at : ℕ} (reason : Reason) (place : ℕ) → (S → Stands f.first place) → (s : Reading A) → Local f S k at (Stops reason place) s
+local-stop {f = f} reason place there s = record {
+  moves = λ v y end e. absurd (cc);
+  stays = λ v y end e. absurd (cc);
+  back = λ v y end e near. absurd (cc);
+  same = λ d c v y end e near. absurd (cc);
+  halts = λ q d v why at e. let p : place ≡ at = cc in subst (Stands f.first) p (there d);
 }
-
-pub local-stop : {A : Type 0} {f : Front} {S : Type 0} {k at : ℕ} (reason : Reason) (place : ℕ) (s : Reading A) → Local f S k at (Stops reason place) s
-local-stop reason place s = local-stops (λ x end e. cc) s
 
 -- another reading of the second text
 pub local-to : {A : Type 0} {f : Front} {S : Type 0} {k at : ℕ} {r s : Reading A} → Local f S k at r s → (t : Reading A) → (S → s ≡ t) → Local f S k at r t
@@ -54,6 +54,7 @@ local-to l t e = record {
   stays = l.stays;
   back = l.back;
   same = λ d c v x end q near. sym (e d) ∙ l.same d c v x end q near;
+  halts = l.halts;
 }
 
 pub local-weaker : {A : Type 0} {f : Front} {S : Type 0} {k at : ℕ} {r s : Reading A} → Local f S k at r s → Local f S 0 at r s
@@ -62,6 +63,7 @@ local-weaker {k = k} {at = at} l = record {
   stays = l.stays;
   back = l.back;
   same = l.same;
+  halts = l.halts;
 }
 
 pub local-under : {A : Type 0} {f : Front} {S T : Type 0} {k at : ℕ} {r s : Reading A} → Local f S k at r s → (T → S) → Local f T k at r s
@@ -70,6 +72,18 @@ local-under l w = record {
   stays = l.stays;
   back = l.back;
   same = λ d c v x end q near. l.same (w d) c v x end q near;
+  halts = λ q d v reason place e. l.halts q (w d) v reason place e;
+}
+
+-- a fault before another part
+pub local-stopped : {A B : Type 0} {f : Front} {S : Type 0} {k at : ℕ} {reason : Reason} {place : ℕ} {s : Reading A} → Local {A = A} f S k at (Stops reason place) s → (t : Reading B)
+    → Local {A = B} f S k at (Stops reason place) t
+local-stopped {f = f} {reason = reason} {place = place} l t = record {
+  moves = λ v y end e. absurd (cc);
+  stays = λ v y end e. absurd (cc);
+  back = λ v y end e near. absurd (cc);
+  same = λ d c v y end e near. absurd (cc);
+  halts = λ q d v why at e. let p : place ≡ at = cc in subst (Stands f.first) p (l.halts q d v reason place refl);
 }
 
 -- ---- one reading, and then another
@@ -87,8 +101,9 @@ local-after {k = k} {j = j} {at = at} {r = Got x e} {h = h} l m = record {
       let w = l.stays v x e refl in
       let n = m x e (l.moves v x e refl) in
       ap (λ p. then_read p h) (l.same d c v x e refl (n.back w y end q near)) ∙ n.same d c w y end q near;
+  halts = λ q d v why place p. (m x e (l.moves v x e refl)).halts q d (l.stays v x e refl) why place p;
 }
-local-after {r = Stops reason place} {s = s} {h = h} l m = local-stop reason place (then_read s h)
+local-after {r = Stops reason place} {s = s} {h = h} l m = local-stopped l (then_read s h)
 
 pub local-then : {A B : Type 0} {f : Front} {S : Type 0} {k j at : ℕ} {r s : Reading A} {g h : A → ℕ → Reading B}
     → Local f S k at r s → ((x : A) (e : ℕ) → Local f S j e (g x e) (h x e)) → Local f S k at (then_read r g) (then_read s h)
@@ -116,6 +131,31 @@ pub needed-is : (r : Result Token LexStop) (t : Token) (e : ℕ) → needed_from
 needed-is (Ok u) t e h = needed-token u u.kind t e refl h
 needed-is (Err (lex.Lex at)) t e h = absurd (cc)
 needed-is (Err (lex.Incomplete at)) t e h = absurd (cc)
+
+start-of : (t : Token) (k : TokenKind) (reason : Reason) (place : ℕ) → needed_token t k ≡ Stops reason place → t.start ≡ place
+start-of t kind.Name reason place h = absurd (cc)
+start-of t kind.Reserved reason place h = absurd (cc)
+start-of t (kind.Number n) reason place h = absurd (cc)
+start-of t kind.Sign reason place h = absurd (cc)
+start-of t kind.End reason place h = cc
+
+needed-halts-by : (text : List ℕ) (at : ℕ) (reason : Reason) (place : ℕ) → Stands text at → (r : Result Token LexStop) → next_token text at ≡ r → needed_from r ≡ Stops reason place → Stands text place
+needed-halts-by text at reason place v (Ok t) is h = subst (Stands text) (start-of t t.kind reason place h) (next-stands text at t v is).begins
+needed-halts-by text at reason place v (Err (lex.Lex p)) is h = let q : p ≡ place = cc in subst (Stands text) q (fault-stands text at (lex.Lex p) v is)
+needed-halts-by text at reason place v (Err (lex.Incomplete p)) is h = let q : p ≡ place = cc in subst (Stands text) q (fault-stands text at (lex.Incomplete p) v is)
+
+-- where a token is needed and there is none
+pub needed-halts : (text : List ℕ) (at : ℕ) (reason : Reason) (place : ℕ) → Stands text at → needed text at ≡ Stops reason place → Stands text place
+needed-halts text at reason place v h = needed-halts-by text at reason place v (next_token text at) refl h
+
+pub local-needed : {B : Type 0} {f : Front} {S : Type 0} {k at : ℕ} (reason : Reason) (place : ℕ) → needed f.first at ≡ Stops reason place → (s : Reading B) → Local f S k at (Stops reason place) s
+local-needed {f = f} {at = at} reason place h s = record {
+  moves = λ v y end e. absurd (cc);
+  stays = λ v y end e. absurd (cc);
+  back = λ v y end e near. absurd (cc);
+  same = λ d c v y end e near. absurd (cc);
+  halts = λ q d v why there e. let p : place ≡ there = cc in subst (Stands f.first) p (needed-halts f.first at reason place v h);
+}
 
 -- a token is near where the next one is
 pub near-token : (f : Front) (at : ℕ) (t : Token) → next_token f.first at ≡ Ok t → t.start < t.end → Stands f.first t.end → Near f t.end → Near f at
@@ -146,17 +186,18 @@ local-token-by {f = f} {j = j} {at = at} {h = h} m (Got t e) q =
           let order : t.start < t.end = (next v).some k.some in
           let a : Again f at t = again f at t c v k.is (omega arith) in
           ap (λ (r : Reading Token). then_read r (λ t _. h t)) (ap needed_from (a.same ∙ sym k.is) ∙ q) ∙ (m t).same a.token c (next v).ends y end p near;
+      halts = λ o d v why place p. (m t).halts o (one-text f t o (next v).begins) (next v).ends why place p;
     }
-local-token-by {f = f} {at = at} {h = h} m (Stops reason place) q = local-stop reason place (then_read (needed f.second at) (λ t _. h t))
+local-token-by {f = f} {at = at} {h = h} m (Stops reason place) q = local-needed reason place q (then_read (needed f.second at) (λ t _. h t))
 
 -- a token that is needed, and a reading from its end on
 pub local-token : {B : Type 0} {f : Front} {S : Type 0} {j at : ℕ} {g h : Token → Reading B} → ((t : Token) → Local f (SameToken f t) j t.end (g t) (h t))
     → Local f S 1 at (then_read (needed f.first at) (λ t _. g t)) (then_read (needed f.second at) (λ t _. h t))
 local-token {f = f} {at = at} m = local-token-by m (needed f.first at) refl
 
-pub local-pass : {A : Type 0} {f : Front} {S : Type 0} (t : Token) (b b' : Bool) (x y : A) → (S → b ≡ b') → (S → x ≡ y) → Local f S 0 t.end (passed b t x) (passed b' t y)
+pub local-pass : {A : Type 0} {f : Front} (t : Token) (b b' : Bool) (x y : A) → (SameToken f t → b ≡ b') → (SameToken f t → x ≡ y) → Local f (SameToken f t) 0 t.end (passed b t x) (passed b' t y)
 local-pass t true b' x y p q = local-to (local-got x) (passed b' t y) (λ s. ap (λ a. Got a t.end) (q s) ∙ ap (λ b. passed b t y) (p s))
-local-pass t false b' x y p q = local-stop Syntax t.start (passed b' t y)
+local-pass t false b' x y p q = local-stop Syntax t.start (λ e. e.begins) (passed b' t y)
 
 -- ---- what is seen
 
@@ -182,12 +223,14 @@ local-if-by {f = f} {at = at} p q e {s = s} {s' = s'} l m true h = record {
   stays = l.stays;
   back = l.back;
   same = λ d c v x end g near. ap (λ b. cond b s s') (sees-same f at p q e c v (l.back v x end g near) ∙ h) ∙ l.same d c v x end g near;
+  halts = l.halts;
 }
 local-if-by {f = f} {at = at} p q e {s = s} {s' = s'} l m false h = record {
   moves = m.moves;
   stays = m.stays;
   back = m.back;
   same = λ d c v x end g near. ap (λ b. cond b s s') (sees-same f at p q e c v (m.back v x end g near) ∙ h) ∙ m.same d c v x end g near;
+  halts = m.halts;
 }
 
 -- a choice by the next token
@@ -230,6 +273,7 @@ module _ {A : Type 0} (f : Front) (p q : Token → Bool) (e : (t : Token) → Sa
         stays = l.stays;
         back = l.back;
         same = λ d c v x end r near. absurd (let z = near-inside f at c v (l.back v x end r near) in omega arith);
+        halts = l.halts;
       }
   row-seen k (suc m) at h g later true look =
       let l = local-after {h = λ a end. then_read (many (sees q f.second) two m end) (λ more last. Got (a ∷ more) last)} (parts at)
@@ -240,6 +284,7 @@ module _ {A : Type 0} (f : Front) (p q : Token → Bool) (e : (t : Token) → Sa
         back = l.back;
         same = λ d c v x end r near.
             ap (onward (sees q f.second) two m at) (sees-same f at p q e c v (l.back v x end r near) ∙ look) ∙ l.same d c v x end r near;
+        halts = l.halts;
       }
   row-seen k m at h g later false look =
       let l = local-got {A = List A} {f = f} {S = Unit {0}} {at = at} [] in
@@ -249,6 +294,7 @@ module _ {A : Type 0} (f : Front) (p q : Token → Bool) (e : (t : Token) → Sa
         back = l.back;
         same = λ d c v x end r near.
             many-false (sees q f.second) two m at (sees-same f at p q e c v (l.back v x end r near) ∙ look) ∙ r;
+        halts = l.halts;
       }
 
   rest-of-row : (k m at : ℕ) → length f.first ≤ at + k → length f.second ≤ at + m
@@ -260,6 +306,7 @@ module _ {A : Type 0} (f : Front) (p q : Token → Bool) (e : (t : Token) → Sa
         stays = l.stays;
         back = l.back;
         same = λ d c v x end r near. absurd (let z = near-inside f at c v (l.back v x end r near) in omega arith);
+        halts = l.halts;
       }
   rest-of-row (suc k) m at h g = row-seen k m at h g (rest-of-row k) (sees p f.first at) refl
 

@@ -60,12 +60,12 @@ name-local {f} = local-token (λ t. local-pass t (is_name f.first t) (is_name f.
 pub binder-local : {f : Front} {S : Type 0} {at : ℕ} → Local f S 1 at (binder f.first at) (binder f.second at)
 binder-local {f} = local-token (λ t. local-pass t (is_name_kind t.kind) (is_name_kind t.kind) (word_of f.first t) (word_of f.second t) (λ _. refl) (λ e. e.word))
 
-number-kind : {f : Front} {S : Type 0} (t : Token) (k : TokenKind) → Local f S 0 t.end (number_by k t) (number_by k t)
-number-kind t kind.Name = local-stop Syntax t.start _
-number-kind t kind.Reserved = local-stop Syntax t.start _
+number-kind : {f : Front} (t : Token) (k : TokenKind) → Local f (SameToken f t) 0 t.end (number_by k t) (number_by k t)
+number-kind t kind.Name = local-stop Syntax t.start (λ e. e.begins) _
+number-kind t kind.Reserved = local-stop Syntax t.start (λ e. e.begins) _
 number-kind t (kind.Number n) = local-got n
-number-kind t kind.Sign = local-stop Syntax t.start _
-number-kind t kind.End = local-stop Syntax t.start _
+number-kind t kind.Sign = local-stop Syntax t.start (λ e. e.begins) _
+number-kind t kind.End = local-stop Syntax t.start (λ e. e.begins) _
 
 pub number-local : {f : Front} {S : Type 0} {at : ℕ} → Local f S 1 at (number f.first at) (number f.second at)
 number-local = local-token (λ t. number-kind t t.kind)
@@ -102,7 +102,7 @@ raised-by : {f : Front} (t : Token) (b b' : Bool) → (SameToken f t → b ≡ b
 raised-by {f} t true b' e =
     local-to (local-then offset-local (λ k end. local-to (local-got (part.Name (word_of f.first t) k)) _ (λ s. ap (λ w. Got (part.Name w k) end) s.word))) _
     (λ s. ap (λ b. cond b (then_read (offset f.second t.end) (λ k end. Got (part.Name (word_of f.second t) k) end)) (Stops Syntax t.start)) (e s))
-raised-by t false b' e = local-stop Syntax t.start _
+raised-by t false b' e = local-stop Syntax t.start (λ e. e.begins) _
 
 part-by : {f : Front} (t : Token) (k : TokenKind) → Local f (SameToken f t) 0 t.end (part_by f.first t k) (part_by f.second t k)
 part-by {f} t kind.Name = raised-by t (is_name f.first t) (is_name f.second t) (is_name-same f t)
@@ -187,10 +187,10 @@ module _ (f : Front) (ia ib : ℕ → Reading Written) (inner : (at : ℕ) → L
   atom-by t lead.Type = local-weaker (local-then parts-local (λ ps end. local-got (Term t.start (Sort (sort.Typ ps)))))
   atom-by t lead.Open = local-weaker (parenthesis-local t.start t.end)
   atom-by t lead.Match = local-weaker (matched-local t.start t.end)
-  atom-by t lead.Lambda = local-stop Syntax t.start _
-  atom-by t lead.Forall = local-stop Syntax t.start _
-  atom-by t lead.Vector = local-stop Syntax t.start _
-  atom-by t lead.Other = local-stop Syntax t.start _
+  atom-by t lead.Lambda = local-stop Syntax t.start (λ e. e.begins) _
+  atom-by t lead.Forall = local-stop Syntax t.start (λ e. e.begins) _
+  atom-by t lead.Vector = local-stop Syntax t.start (λ e. e.begins) _
+  atom-by t lead.Other = local-stop Syntax t.start (λ e. e.begins) _
 
   -- by what the token is in each text
   atom-of : (t : Token) → Local f (SameToken f t) 0 t.end (atom_by (lead_of f.first t) ia f.first t) (atom_by (lead_of f.second t) ib f.second t)
@@ -225,8 +225,8 @@ module _ (f : Front) (ia ib : ℕ → Reading Written) (inner : (at : ℕ) → L
   term-by : (t : Token) (l : Lead) → Local f (SameToken f t) 0 t.end (term_by l ia f.first t) (term_by l ib f.second t)
   term-by t lead.Lambda = local-weaker (lambda-local t.start t.end)
   term-by t lead.Forall = local-weaker (product-local t.start t.end)
-  term-by t lead.Vector = local-stop Syntax t.start _
-  term-by t lead.Other = local-stop Syntax t.start _
+  term-by t lead.Vector = local-stop Syntax t.start (λ e. e.begins) _
+  term-by t lead.Other = local-stop Syntax t.start (λ e. e.begins) _
   term-by t lead.Name = arrow-local t
   term-by t lead.Hole = arrow-local t
   term-by t lead.Prop = arrow-local t
@@ -239,7 +239,7 @@ module _ (f : Front) (ia ib : ℕ → Reading Written) (inner : (at : ℕ) → L
   opened-local at = local-token (λ t. local-to (term-by t (lead_of f.first t)) _ (λ s. ap (λ l. term_by l ib f.second t) (lead-same f t s)))
 
 pub term-local : {f : Front} (room at : ℕ) → Local f (Unit {0}) 1 at (term room f.first at) (term room f.second at)
-term-local {f} zero at = local-token {j = 0} (λ t. local-stop _ t.start _)
+term-local {f} zero at = local-token {j = 0} (λ t. local-stop _ t.start (λ e. e.begins) _)
 term-local {f} (suc room) at = opened-local f (term room f.first) (term room f.second) (term-local room) at
 
 pub term_at-local : {f : Front} {S : Type 0} (at depth : ℕ) → Local f S 1 at (term_at f.first at depth) (term_at f.second at depth)

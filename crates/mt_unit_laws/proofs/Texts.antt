@@ -146,7 +146,7 @@ inside f at c v near =
     let other : get_or f.second (at + k) 0 ≡ z = ap (λ i. get_or f.second i 0) sum ∙ sym (shared-byte f (f.n - 1) (omega arith)) in
     let same : take k D ≡ take k E = shared-take f at k (omega arith) in
     let bound : IsCharBoundary D k = IsCharBoundary-before_ascii D k lD (omega arith) in
-    let front : IsUtf8 (take k D) = IsUtf8-take D k v bound in
+    let front : IsUtf8 (take k D) = IsUtf8-take D k v.utf8 bound in
     let later : IsUtf8 (drop k E) =
     subst IsUtf8 (sym (drop-drop k at f.second)) (IsUtf8-drop f.second (at + k) f.second_is_text (IsCharBoundary-before_ascii f.second (at + k) (omega arith) (omega arith))) in
     let long : width (chars (take k D)) ≡ k = sym (length-encodes (chars (take k D))) ∙ ap length (encodes-chars (take k D) front) ∙ length-take-le k D (omega arith) in
@@ -155,7 +155,7 @@ inside f at c v near =
       last = z;
       rest_of_first = chars (drop (k + 1) D);
       rest_of_second = chars (drop (k + 1) E);
-      first = split-chars D k z front (IsUtf8-drop D k v bound) lD byte small;
+      first = split-chars D k z front (IsUtf8-drop D k v.utf8 bound) lD byte small;
       second = split-chars E k z (subst IsUtf8 same front) later lE (get_or-drop at f.second k 0 ∙ other) small ∙ ap (λ xs. chars xs ++ z ∷ chars (drop (k + 1) E)) (sym same);
       place = omega arith;
       closing = c.sign;
@@ -165,8 +165,17 @@ inside f at c v near =
 
 -- the text of a token, and the character that it begins with, are the same in both texts
 pub record SameToken (f : Front) (t : Token) : Type 0 where
+  pub begins : Stands f.first t.start
   pub word : take (t.end - t.start) (drop t.start f.first) ≡ take (t.end - t.start) (drop t.start f.second)
   pub head : slice_index (chars_from f.first t.start) 0 ≡ slice_index (chars_from f.second t.start) 0
+
+-- in two texts that are one text
+pub one-text : (f : Front) (t : Token) → f.first ≡ f.second → Stands f.first t.start → SameToken f t
+one-text f t e v = record {
+  begins = v;
+  word = ap (λ (x : List ℕ). take (t.end - t.start) (drop t.start x)) e;
+  head = ap (λ x. slice_index (chars_from x t.start) 0) e;
+}
 
 head-same : (ds : List ℕ) (z : ℕ) (xs ys : List ℕ) → slice_index (ds ++ z ∷ xs) 0 ≡ slice_index (ds ++ z ∷ ys) 0
 head-same [] z xs ys = refl
@@ -210,6 +219,7 @@ again f at t c v e near =
     record {
       same = ap (after_gap f.second) gap_second ∙ token_second;
       token = record {
+        begins = n.begins;
         word = shared-take f t.start (t.end - t.start) (omega arith);
         head = ap (λ cs. slice_index cs 0) j.first ∙ head-same j.front j.last j.rest_of_first j.rest_of_second ∙ ap (λ cs. slice_index cs 0) (sym j.second);
       };

@@ -1,5 +1,5 @@
 -- Tokens of a text begin and end at characters.
-use Rattle.std.proofs.Common.{◌≡◌, ◌≢◌, ℕ, zero, suc, ◌+◌, ◌-◌, ◌<◌, ◌≤◌, Bool, true, false, cond, ◌&&◌, ◌||◌, ◌==◌, List, [], ◌∷◌, ◌++◌, length, drop, Ok, Err, refl, sym, ap, ap₂, ◌∙◌, subst, arith, length-append}
+use Rattle.std.proofs.Common.{◌≡◌, ◌≢◌, ℕ, zero, suc, ◌+◌, ◌-◌, ◌<◌, ◌≤◌, Bool, true, false, cond, ◌&&◌, ◌||◌, ◌==◌, List, [], ◌∷◌, ◌++◌, length, drop, Ok, Err, refl, sym, ap, ap₂, ◌∙◌, subst, arith, append-nil, length-append, length-drop}
 use Rattle.std.specs.Prelude.{encode_utf8, slice_index, nat_lt, Result}
 use Rattle.std.specs.Char.{len_utf8}
 use Rattle.std.specs.List.{list_any}
@@ -17,7 +17,7 @@ use Rattle.mt_lexer.specs.declared.Token.{Token}
 use Rattle.mt_lexer.specs.declared.TokenKind.{TokenKind}
 use Rattle.mt_lexer.specs.declared.TokenKind.TheVariants.{Name, Reserved, Number, Sign, End}
 use Rattle.mt_lexer.specs.declared.LexStop.{LexStop}
-use Rattle.mt_lexer.specs.declared.LexStop.TheVariants.{Lex}
+use Rattle.mt_lexer.specs.declared.LexStop.TheVariants.{Lex, Incomplete}
 use Rattle.mt_lexer.specs.Tokens.{piece, gap, run, is_in, is_start, is_digit, is_reserved, is_arrow, signs, value_onto, name_token, number_token, sign_token, token, token_at, chars_from, after_gap, next_token}
 use Rattle.mt_lexer.proofs.Characters.{run-step, run-stop, start-continues}
 use Rattle.mt_lexer.proofs.Shared_tokens.{width}
@@ -39,20 +39,28 @@ scalars-rest (x ∷ xs) ys e = scalars-rest xs ys (and_parts (scalar x) (scalars
 -- ---- places
 
 -- characters begin at a place of a text
-abbrev pub Stands : List ℕ → ℕ → Type 0
-Stands text at = IsUtf8 (drop at text)
+pub record Stands (text : List ℕ) (at : ℕ) : Type 0 where
+  pub inside : at ≤ length text
+  pub utf8 : IsUtf8 (drop at text)
 
-pub chars-stand : (text : List ℕ) (at : ℕ) (v : Stands text at) → chars_from text at ≡ v.0
-chars-stand text at v = ap chars (sym v.1.1) ∙ chars-encodes v.0 v.1.0
+pub chars-stand : (text : List ℕ) (at : ℕ) (v : Stands text at) → chars_from text at ≡ v.utf8.0
+chars-stand text at v = ap chars (sym v.utf8.1.1) ∙ chars-encodes v.utf8.0 v.utf8.1.0
 
 -- a place further on
-pub Stands-cut : (text front rest : List ℕ) (at s : ℕ) (v : Stands text at) → v.0 ≡ front ++ rest → s ≡ at + width front
+Stands-cut : (text front rest : List ℕ) (at s : ℕ) (v : Stands text at) → v.utf8.0 ≡ front ++ rest → s ≡ at + width front
     → (scalars rest ≡ true) × (encodes rest ≡ drop s text)
 Stands-cut text front rest at s v e place =
-    let bytes : drop at text ≡ encodes front ++ encodes rest = sym v.1.1 ∙ ap encodes e ∙ encodes-append front rest in (
-      scalars-rest front rest (ap scalars (sym e) ∙ v.1.0),
+    let bytes : drop at text ≡ encodes front ++ encodes rest = sym v.utf8.1.1 ∙ ap encodes e ∙ encodes-append front rest in (
+      scalars-rest front rest (ap scalars (sym e) ∙ v.utf8.1.0),
       sym (ap (λ p. drop p text) place ∙ sym (drop-drop (width front) at text) ∙ ap (drop (width front)) bytes ∙ drop_at (encodes front) (encodes rest) (width front) (length-encodes front)),
     )
+
+Stands-inside : (text front rest : List ℕ) (at s : ℕ) (v : Stands text at) → v.utf8.0 ≡ front ++ rest → s ≡ at + width front → s ≤ length text
+Stands-inside text front rest at s v e place =
+    let long : length (drop at text) ≡ width front + width rest =
+    ap length (sym v.utf8.1.1) ∙ length-encodes v.utf8.0 ∙ ap width e ∙ width-append front rest in
+    let inside : at ≤ length text = v.inside in
+    omega (arith, long, length-drop at text)
 
 -- ---- gaps
 
@@ -207,11 +215,12 @@ pub record Next (text : List ℕ) (at : ℕ) (t : Token) : Type 0 where
   pub order : t.start ≤ t.end
   pub some : t.kind ≢ End → t.start < t.end
 
-next-at : (text : List ℕ) (at s : ℕ) (t : Token) (v : Stands text at) → gap 0 false at v.0 ≡ Ok s → token_at s (chars_from text s) ≡ Ok t → Next text at t
+next-at : (text : List ℕ) (at s : ℕ) (t : Token) (v : Stands text at) → gap 0 false at v.utf8.0 ≡ Ok s → token_at s (chars_from text s) ≡ Ok t → Next text at t
 next-at text at s t v e h =
-    let g : Gap v.0 at s = gap-cut v.0 0 false at s e in
+    let g : Gap v.utf8.0 at s = gap-cut v.utf8.0 0 false at s e in
     let place : s ≡ at + width g.front = g.place in
-    let w : Stands text s = (g.rest, Stands-cut text g.front g.rest at s v g.whole g.place) in
+    let w : Stands text s =
+    record { inside = Stands-inside text g.front g.rest at s v g.whole g.place; utf8 = (g.rest, Stands-cut text g.front g.rest at s v g.whole g.place) } in
     let rest : chars_from text s ≡ g.rest = chars-stand text s w in
     let k : Cut s g.rest t = token-cut s g.rest t (ap (token_at s) (sym rest) ∙ h) in
     let start : t.start ≡ s = k.start in
@@ -220,7 +229,7 @@ next-at text at s t v e h =
     record {
       after = omega arith;
       begins = subst (Stands text) (sym start) w;
-      ends = (k.rest, Stands-cut text k.front k.rest s t.end w k.whole k.end);
+      ends = record { inside = Stands-inside text k.front k.rest s t.end w k.whole k.end; utf8 = (k.rest, Stands-cut text k.front k.rest s t.end w k.whole k.end) };
       gap_ends = ap (gap 0 false at) (chars-stand text at v) ∙ e ∙ ap Ok (sym start);
       token_is = subst (λ p. token_at p (chars_from text p) ≡ Ok t) (sym start) h;
       again = subst (λ p. next_token text p ≡ Ok t) (sym start) (ap (after_gap text) gap_same ∙ h);
@@ -228,10 +237,83 @@ next-at text at s t v e h =
       some = λ other. let more = k.some other in omega arith;
     }
 
-next-by : (text : List ℕ) (at : ℕ) (t : Token) (v : Stands text at) (r : Result ℕ LexStop) → gap 0 false at v.0 ≡ r → after_gap text r ≡ Ok t → Next text at t
+next-by : (text : List ℕ) (at : ℕ) (t : Token) (v : Stands text at) (r : Result ℕ LexStop) → gap 0 false at v.utf8.0 ≡ r → after_gap text r ≡ Ok t → Next text at t
 next-by text at t v (Ok s) e h = next-at text at s t v e h
 next-by text at t v (Err stop) e h = absurd (cc)
 
 pub next-stands : (text : List ℕ) (at : ℕ) (t : Token) → Stands text at → next_token text at ≡ Ok t → Next text at t
 next-stands text at t v e =
-    next-by text at t v (gap 0 false at v.0) refl (ap (λ cs. after_gap text (gap 0 false at cs)) (sym (chars-stand text at v)) ∙ e)
+    next-by text at t v (gap 0 false at v.utf8.0) refl (ap (λ cs. after_gap text (gap 0 false at cs)) (sym (chars-stand text at v)) ∙ e)
+
+-- ---- faults
+
+abbrev pub place_of : LexStop → ℕ
+place_of (Lex at) = at
+place_of (Incomplete at) = at
+
+stop-of-cond : (b : Bool) (x : LexStop) (u : Token) (e : LexStop) → cond b (Err x) (Ok u) ≡ Err e → x ≡ e
+stop-of-cond true x u e h = cc
+stop-of-cond false x u e h = absurd (cc)
+
+sign-stops : (s : ℕ) (a b : Bool) (t u : Token) (e : LexStop) → cond a (Ok t) (cond b (Ok u) (Err (Lex s))) ≡ Err e → Lex s ≡ e
+sign-stops s true b t u e h = absurd (cc)
+sign-stops s false true t u e h = absurd (cc)
+sign-stops s false false t u e h = cc
+
+number-stops : (s c : ℕ) (cs : List ℕ) (e : LexStop) (b : Bool) → cond b (number_token s (run Digit (c ∷ cs))) (sign_token s c (slice_index cs 0)) ≡ Err e → Lex s ≡ e
+number-stops s c cs e true h =
+    let ds : List ℕ = run Digit (c ∷ cs) in
+    stop-of-cond (((slice_index ds 0 == 48) && nat_lt 1 (length ds)) || nat_lt 4294967295 (value_onto 0 ds)) (Lex s) (token (Number (value_onto 0 ds)) s (s + length ds)) e h
+number-stops s c cs e false h =
+    sign-stops s (is_arrow c (slice_index cs 0)) (list_any (λ s. s == c) signs) (token Sign s (s + 2)) (token Sign s (s + len_utf8 c)) e h
+
+name-stops : (s c : ℕ) (cs : List ℕ) (e : LexStop) (b : Bool)
+    → cond b (name_token s (run Continue (c ∷ cs))) (cond (is_digit c) (number_token s (run Digit (c ∷ cs))) (sign_token s c (slice_index cs 0))) ≡ Err e → Lex s ≡ e
+name-stops s c cs e true h =
+    let w : List ℕ = run Continue (c ∷ cs) in
+    stop-of-cond (nat_lt 255 (length w)) (Lex s) (token (cond (is_reserved w) Reserved Name) s (s + length w)) e h
+name-stops s c cs e false h = number-stops s c cs e (is_digit c) h
+
+token-stops : (s : ℕ) (cs : List ℕ) (e : LexStop) → token_at s cs ≡ Err e → Lex s ≡ e
+token-stops s [] e h = absurd (cc)
+token-stops s (c ∷ cs) e h = name-stops s c cs e (is_start c) h
+
+abbrev open_at : ℕ → List ℕ → LexStop
+open_at at cs = Incomplete (at + width cs)
+
+further : (at c : ℕ) (cs : List ℕ) (e : LexStop) → open_at (at + len_utf8 c) cs ≡ e → open_at at (c ∷ cs) ≡ e
+further at c cs e h = ap Incomplete (let z : at + width (c ∷ cs) ≡ at + len_utf8 c + width cs = omega arith in z) ∙ h
+
+piece-stops : (depth at c : ℕ) (cs : List ℕ) (e : LexStop) → ((deep : ℕ) (used : Bool) → gap deep used (at + len_utf8 c) cs ≡ Err e → open_at (at + len_utf8 c) cs ≡ e)
+    → (p : Piece) → goes depth at c cs p ≡ Err e → open_at at (c ∷ cs) ≡ e
+piece-stops depth at c cs e later Opening h = further at c cs e (later (depth + 1) true h)
+piece-stops depth at c cs e later Closing h = further at c cs e (later (depth - 1) true h)
+piece-stops depth at c cs e later Passed h = further at c cs e (later depth false h)
+piece-stops depth at c cs e later Other h = absurd (cc)
+
+gap-stops : (cs : List ℕ) (depth : ℕ) (used : Bool) (at : ℕ) (e : LexStop) → gap depth used at cs ≡ Err e → open_at at cs ≡ e
+gap-stops [] zero used at e h = absurd (cc)
+gap-stops [] (suc depth) used at e h = ap Incomplete (let z : at + width [] ≡ at = omega arith in z) ∙ (let z : Incomplete at ≡ e = cc in z)
+gap-stops (c ∷ cs) depth true at e h = further at c cs e (gap-stops cs depth false (at + len_utf8 c) e (sym (gap-used depth at c cs) ∙ h))
+gap-stops (c ∷ cs) depth false at e h =
+    piece-stops depth at c cs e (λ deep used q. gap-stops cs deep used (at + len_utf8 c) e q) (piece depth c (slice_index cs 0)) (sym (gap-goes depth at c cs) ∙ h)
+
+fault-by : (text : List ℕ) (at : ℕ) (e : LexStop) (v : Stands text at) (r : Result ℕ LexStop) → gap 0 false at v.utf8.0 ≡ r → after_gap text r ≡ Err e → Stands text (place_of e)
+fault-by text at e v (Ok s) q h =
+    let g : Gap v.utf8.0 at s = gap-cut v.utf8.0 0 false at s q in
+    let w : Stands text s =
+    record { inside = Stands-inside text g.front g.rest at s v g.whole g.place; utf8 = (g.rest, Stands-cut text g.front g.rest at s v g.whole g.place) } in
+    subst (λ x. Stands text (place_of x)) (token-stops s (chars_from text s) e h) w
+fault-by text at e v (Err stop) q h =
+    let cs : List ℕ = v.utf8.0 in
+    let whole : cs ≡ cs ++ [] = sym (append-nil cs) in
+    let place : at + width cs ≡ at + width cs = refl in
+    let w : Stands text (at + width cs) =
+    record { inside = Stands-inside text cs [] at (at + width cs) v whole refl; utf8 = ([], Stands-cut text cs [] at (at + width cs) v whole refl) } in
+    let same : stop ≡ e = cc in
+    subst (λ x. Stands text (place_of x)) (gap-stops cs 0 false at stop q ∙ same) w
+
+-- where there is no token, the fault's place is that of a character or the end
+pub fault-stands : (text : List ℕ) (at : ℕ) (e : LexStop) → Stands text at → next_token text at ≡ Err e → Stands text (place_of e)
+fault-stands text at e v h =
+    fault-by text at e v (gap 0 false at v.utf8.0) refl (ap (λ cs. after_gap text (gap 0 false at cs)) (sym (chars-stand text at v)) ∙ h)

@@ -50,7 +50,7 @@ named-final t = final-then nums-local (λ ns a. final-map (λ _ end. OneStep (ti
 all-final : {f : Front} {S : Type 0} {at : ℕ} → Final f S at (all_named f.first at) (all_named f.second at)
 all-final = final-map (λ _ end. OneStep tiny.Wildcard) (final-sign 58 refl)
 
-command-final : {f : Front} {S : Type 0} (t : Token) (c : Command) → Final f S t.end (command_by c f.first t) (command_by c f.second t)
+command-final : {f : Front} (t : Token) (c : Command) → Final f (SameToken f t) t.end (command_by c f.first t) (command_by c f.second t)
 command-final t command.Universe = constraint-final
 command-final t command.Axiom = assumed-final
 command-final t command.Definition = defined-final
@@ -61,17 +61,18 @@ command-final t command.Unification = hint-final
 command-final t command.Coercion = coercion-final
 command-final t command.Theorem = theorem-final
 command-final t command.Qed = qed-final
-command-final t command.Other = final-stop Syntax t.start _
+command-final t command.Other = final-stop Syntax t.start (λ e. e.begins) _
 
 plain-final : {f : Front} {S : Type 0} {at : ℕ} {r s : Reading WrittenKind} (start : ℕ) → Final f S at r s → Final f S at (plain start r) (plain start s)
 plain-final start l = final-map (λ k end. record { start = start; end = end; seen = end; kind = k }) l
 
 -- ---- units, by their first token
 
-record Whole {A : Type 0} (f : Front) (at : ℕ) (t : Token) (r s : Reading A) : Type 0 where
+pub record Whole {A : Type 0} (f : Front) (at : ℕ) (t : Token) (r s : Reading A) : Type 0 where
   pub closed : Next f.first at t → t.kind ≢ kind.End → (x : A) → r ≡ Got x f.n → Closed f.first f.n
   pub early : Next f.first at t → t.kind ≢ kind.End → (x : A) → r ≡ Got x f.n → t.start < f.n
   pub same : SameToken f t → Closed f.first f.n → Next f.first at t → (x : A) → r ≡ Got x f.n → s ≡ Got x f.n
+  pub halts : f.first ≡ f.second → SameToken f t → Next f.first at t → (reason : Reason) (place : ℕ) → r ≡ Stops reason place → Stands f.first place
 
 whole-end : {A : Type 0} {f : Front} {at : ℕ} (t : Token) {r s : Reading A} → Final f (SameToken f t) t.end r s → Whole f at t r s
 whole-end {f = f} t l = record {
@@ -84,6 +85,7 @@ whole-end {f = f} t l = record {
       let o : t.start ≤ t.end = n.order in
       omega arith;
   same = λ d c n x e. l.same d c n.ends x e;
+  halts = λ q d n why place e. l.halts q d n.ends why place e;
 }
 
 whole-start : {A : Type 0} {f : Front} {at : ℕ} (t : Token) {r s : Reading A} → Final f (SameToken f t) t.start r s → Whole f at t r s
@@ -96,6 +98,7 @@ whole-start {f = f} t l = record {
       let b : near.token.start < f.n = near.early in
       omega arith;
   same = λ d c n x e. l.same d c n.begins x e;
+  halts = λ q d n why place e. l.halts q d n.begins why place e;
 }
 
 -- a unit of one token, which is a closing sign
@@ -105,16 +108,18 @@ whole-sign {f} {at} t c k h e = record {
   closed = λ n some x q. let end : t.end ≡ f.n = cc in subst (Closed f.first) end (closed-by f.first at t c n (n.some some) h e);
   early = λ n some x q. let end : t.end ≡ f.n = cc in let o : t.start < t.end = n.some some in omega arith;
   same = λ d g n x q. q;
+  halts = λ o d n why place q. absurd (cc);
 }
 
-whole-stop : {A : Type 0} {f : Front} {at : ℕ} (t : Token) (reason : Reason) (place : ℕ) (s : Reading A) → Whole f at t (Stops reason place) s
-whole-stop t reason place s = whole-end t (final-stop reason place s)
+whole-stop : {A : Type 0} {f : Front} {at : ℕ} (t : Token) (s : Reading A) → Whole f at t (Stops Syntax t.start) s
+whole-stop t s = whole-end t (final-stop Syntax t.start (λ e. e.begins) s)
 
 whole-to : {A : Type 0} {f : Front} {at : ℕ} {t : Token} {r s : Reading A} → Whole f at t r s → (s' : Reading A) → (SameToken f t → s ≡ s') → Whole f at t r s'
 whole-to l s' e = record {
   closed = l.closed;
   early = l.early;
   same = λ d c n x q. sym (e d) ∙ l.same d c n x q;
+  halts = l.halts;
 }
 
 -- ---- steps of one sign
@@ -170,7 +175,7 @@ signed-whole {f} t true close star brace e g = whole-sign t 124 (OneStep tiny.Ba
 signed-whole {f} t false true star brace e g = whole-sign t 93 (OneStep tiny.BranchClose) refl (eqb-true (sign_of f.first t) 93 g)
 signed-whole t false false true brace e g = whole-end t (plain-final t.start all-final)
 signed-whole t false false false true e g = whole-end t (plain-final t.start block-final)
-signed-whole t false false false false e g = whole-stop t Syntax t.start _
+signed-whole t false false false false e g = whole-stop t _
 
 kind-whole : {f : Front} {at : ℕ} (t : Token) (number : Bool)
     → Whole f at t (plain t.start (cond number (named f.first t) (signed_step (sign_of f.first t) f.first t))) (plain t.start (cond number (named f.second t) (signed_step (sign_of f.second t) f.second t)))
@@ -221,25 +226,25 @@ command-same : (f : Front) (t : Token) → SameToken f t → command_of f.first 
 command-same f t e =
     ap (λ w. cond (is_reserved_kind t.kind && bytes_eq w (codes "let")) command.Let (cond (is_name_kind t.kind) (command_of_word w) command.Other)) e.word
 
-unit-whole : {f : Front} {at : ℕ} (t : Token) → Whole f at t (unit_by f.first t) (unit_by f.second t)
+pub unit-whole : {f : Front} {at : ℕ} (t : Token) → Whole f at t (unit_by f.first t) (unit_by f.second t)
 unit-whole {f} t =
     whole-to (chosen-whole t (command_of f.first t) (lead_of f.first t) refl) _
     (λ e. ap₂ (λ c l. chosen c l f.second t) (command-same f t e) (lead-same f t e))
 
 -- ---- the law
 
-some-unit : (r : Reading WrittenUnit) (u : WrittenUnit) (n : ℕ) → then_read r (λ u end. Got (Some u) end) ≡ Got (Some u) n → r ≡ Got u n
+pub some-unit : (r : Reading WrittenUnit) (u : WrittenUnit) (n : ℕ) → then_read r (λ u end. Got (Some u) end) ≡ Got (Some u) n → r ≡ Got u n
 some-unit (Got w e) u n h =
     let p : Some w ≡ Some u = cc in
     let q : e ≡ n = cc in
     let o : w ≡ u = cc in ap₂ (λ w e. Got w e) o q
 some-unit (Stops reason place) u n h = absurd (cc)
 
-record Begun (text : List ℕ) (t : Token) (u : WrittenUnit) (n : ℕ) : Type 0 where
+pub record Begun (text : List ℕ) (t : Token) (u : WrittenUnit) (n : ℕ) : Type 0 where
   pub some : t.kind ≢ kind.End
   pub reads : unit_by text t ≡ Got u n
 
-begun-by : (text : List ℕ) (t : Token) (k : TokenKind) (u : WrittenUnit) (n : ℕ) → t.kind ≡ k → unit_from_kind k text t ≡ Got (Some u) n → Begun text t u n
+pub begun-by : (text : List ℕ) (t : Token) (k : TokenKind) (u : WrittenUnit) (n : ℕ) → t.kind ≡ k → unit_from_kind k text t ≡ Got (Some u) n → Begun text t u n
 begun-by text t kind.Name u n q h = record { some = λ x. let z : kind.Name ≡ kind.End = sym q ∙ x in absurd (cc); reads = some-unit (unit_by text t) u n h }
 begun-by text t kind.Reserved u n q h = record { some = λ x. let z : kind.Reserved ≡ kind.End = sym q ∙ x in absurd (cc); reads = some-unit (unit_by text t) u n h }
 begun-by text t (kind.Number m) u n q h = record { some = λ x. let z : kind.Number m ≡ kind.End = sym q ∙ x in absurd (cc); reads = some-unit (unit_by text t) u n h }
@@ -267,4 +272,4 @@ law-by f at u v (Err (lex.Incomplete place)) is h = absurd (cc)
 
 pub unit_law : UnitLaw
 unit_law a b at u first second boundary h shared =
-    law-by (record { first = a; second = b; n = u.seen; shared = shared; second_is_text = second }) at u (IsUtf8-drop a at first boundary) (next_token a at) refl h
+    law-by (record { first = a; second = b; n = u.seen; shared = shared; second_is_text = second }) at u (record { inside = boundary.0; utf8 = IsUtf8-drop a at first boundary }) (next_token a at) refl h

@@ -1,11 +1,21 @@
-//! The law of units: each function does nothing, and its clause is the law.
+//! The laws of units: each function does nothing, and its clause is the law.
 #![tactic(auto)]
 
-ghost use Rattle.mt_unit_laws.specs.UnitLaw.{UnitLaw};
+ghost use Rattle.mt_unit_laws.specs.UnitLaw.{UnitLaw, PlaceLaw, FaultLaw};
 
-/// A unit is decided by the bytes before `seen`: whatever follows them, the unit is the same.
+/// A unit is decided by its first `seen` bytes: whatever follows them, the unit is the same.
 pub fn unit_by_seen_bytes()
     ensures law { UnitLaw }
+{}
+
+/// A unit begins at or after its place, is not empty, and has its places on the bounds of characters.
+pub fn place_of_unit()
+    ensures law { PlaceLaw }
+{}
+
+/// The place of a fault is the bound of a character.
+pub fn place_of_fault()
+    ensures law { FaultLaw }
 {}
 
 #[cfg(test)]
@@ -13,7 +23,9 @@ mod tests {
     use super::*;
 
     #[test]
-    fn law(_rt: HostRuntime) {
+    fn laws(_rt: HostRuntime) {
         unit_by_seen_bytes();
+        place_of_unit();
+        place_of_fault();
     }
 }
