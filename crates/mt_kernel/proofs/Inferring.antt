@@ -14,7 +14,7 @@ use Rattle.mt_term.specs.Comparison.{convert}
 use Rattle.mt_term.specs.Inference.{Product, a_sort, a_product, type_at, constant_type, inductive_type, constructor_type, infer, as_sort, as_product, agreement}
 use Rattle.mt_term.proofs.InferenceRules.{as_sort_rules, as_product_rules, agreement_rules, infer_rules, as_sort-done, as_product-done, agreement-done, sort_of-rest, product_of-rest, type_head-rest, infer-var_none, infer-var_done, infer-sort_none, infer-sort_done, infer-const_none, infer-const_done, infer-ind_none, infer-ind_done, infer-con_none, infer-con_done, infer-prod-dom_within, infer-lam-type_within, infer-app-fun_within, infer-match-matched_within, infer-meta-meta_none}
 use Rattle.mt_kernel.proofs.Applying.{application_rules}
-use Rattle.mt_kernel.specs.EnvironmentOf.{environment_of}
+use Rattle.mt_term.specs.EnvironmentOf.{environment_of}
 use Rattle.mt_kernel.specs.Forms.{sort_in, product_in}
 
 -- a weak head that is a sort, and one that is none

@@ -8,7 +8,7 @@ use Rattle.mt_term.specs.Stores.{no_store}
 use Rattle.mt_term.specs.WeakHead.{look}
 use Rattle.mt_term.proofs.WeakHeadRules.{look-missing, look-axiom, look-inductive, look-definition, look_rules}
 use Rattle.mt_term.specs.declared.environment.PlainEnv.{PlainEnv}
-use Rattle.mt_kernel.specs.EnvironmentOf.{environment_of}
+use Rattle.mt_term.specs.EnvironmentOf.{environment_of}
 
 module _ (env : PlainEnv) (c : ℕ) (s : Trees) (n : ℕ) where
   pub missing_stays : slice_get env.entries c ≡ None → look (environment_of env) no_store (Const c) s n ≡ Done None n

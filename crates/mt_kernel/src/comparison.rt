@@ -1,7 +1,7 @@
 // The comparison of two terms.
 ghost use Rattle.std.specs.Prelude.{◌≡◌, ◌+◌, []};
 ghost use Rattle.mt_kernel.specs.Answers.{Answers};
-ghost use Rattle.mt_kernel.specs.EnvironmentOf.{environment_of};
+ghost use Rattle.mt_term.specs.EnvironmentOf.{environment_of};
 ghost use Rattle.mt_term.specs.Comparison.{convert, heads, spines};
 ghost use Rattle.mt_term.specs.Stores.{no_store};
 ghost use Rattle.mt_term.specs.TreeOf.{tree_of};

@@ -3,7 +3,7 @@ ghost use Rattle.std.specs.Prelude.{◌≡◌, ◌+◌, [], IfOk};
 ghost use Rattle.mt_kernel.specs.Answers.{Answers};
 ghost use Rattle.mt_kernel.specs.Arguments.{tree_in};
 ghost use Rattle.mt_kernel.specs.Contexts.{hypotheses_of};
-ghost use Rattle.mt_kernel.specs.EnvironmentOf.{environment_of};
+ghost use Rattle.mt_term.specs.EnvironmentOf.{environment_of};
 ghost use Rattle.mt_kernel.specs.Forms.{held, held_in, product_in, sort_in};
 ghost use Rattle.mt_term.specs.Inference.{agreement, as_product, as_sort, constant_type, infer, product_of, sort_of};
 ghost use Rattle.mt_term.specs.EntryOf.{seen_declaration};

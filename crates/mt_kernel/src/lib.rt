@@ -4,7 +4,7 @@
 ghost use Rattle.std.specs.Prelude.{◌≡◌, ◌+◌, ◌≤◌, [], IfOk, OnErr, OnOk};
 ghost use Rattle.mt_kernel.specs.Answers.{Answers, IsYes, answer_of, charge_of, verdict_of};
 ghost use Rattle.mt_kernel.specs.Derived.{IsTermDerived, IsTypeDerived};
-ghost use Rattle.mt_kernel.specs.EnvironmentOf.{environment_of};
+ghost use Rattle.mt_term.specs.EnvironmentOf.{environment_of};
 ghost use Rattle.mt_kernel.specs.Plain.{IsPlain, IsPlainEnv};
 ghost use Rattle.mt_term.specs.KernelCheck.{check, check_type};
 ghost use Rattle.mt_term.specs.TreeOf.{tree_of};

@@ -2,7 +2,7 @@
 ghost use Rattle.std.specs.Prelude.{◌≡◌, ◌+◌, Some};
 ghost use Rattle.mt_kernel.specs.Answers.{Answers};
 ghost use Rattle.mt_kernel.specs.Arguments.{args_of, tree_in};
-ghost use Rattle.mt_kernel.specs.EnvironmentOf.{environment_of};
+ghost use Rattle.mt_term.specs.EnvironmentOf.{environment_of};
 ghost use Rattle.mt_term.specs.Stores.{no_store};
 ghost use Rattle.mt_term.specs.TreeOf.{tree_of};
 ghost use Rattle.mt_term.specs.WeakHead.{look, whd};

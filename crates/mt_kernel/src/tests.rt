@@ -1,6 +1,6 @@
 // The kernel's calls with ample memory, and the costs of worked terms.
 ghost use Rattle.std.specs.Prelude.{◌≡◌, ◌<◌, [], ◌∷◌, IfOk, length};
-ghost use Rattle.mt_kernel.specs.EnvironmentOf.{environment_of};
+ghost use Rattle.mt_term.specs.EnvironmentOf.{environment_of};
 ghost use Rattle.mt_kernel.specs.Plain.{IsPlain, IsPlainEnv};
 ghost use Rattle.mt_term.specs.TreeOf.{tree_of};
 

@@ -7,7 +7,7 @@ use Rattle.mt_term.specs.KernelCheck.{check, check_type}
 use Rattle.mt_term.specs.declared.environment.PlainEnv.{PlainEnv}
 use Rattle.mt_term.specs.declared.universes.Sort.TheVariants.{Prop, Typ}
 use Rattle.mt_kernel.specs.Answers.{verdict_of, charge_of}
-use Rattle.mt_kernel.specs.EnvironmentOf.{environment_of}
+use Rattle.mt_term.specs.EnvironmentOf.{environment_of}
 use Rattle.mt_kernel.specs.Plain.{IsPlain, IsPlainEntry, IsPlainEnv as IsChecked}
 use Rattle.mt_session.specs.Known.{IsPlainEnv, IsKnown, IsKnownEntry, alone}
 use Rattle.mt_session.specs.Runs.{kernel, passed}

@@ -41,3 +41,9 @@ pub mod Instances
 pub mod SoundStore
 pub mod Laws
 pub mod StoreLaws
+pub mod EnvironmentOf
+pub mod Naming
+pub mod Instancing
+pub mod ScriptState
+pub mod StateOf
+pub mod Derivable

@@ -6,7 +6,7 @@ use Rattle.mt_term.specs.Stores.{no_store}
 use Rattle.mt_term.specs.TreeOf.{tree_of}
 use Rattle.mt_term.proofs.ComparisonRules.{convert-heads}
 use Rattle.mt_kernel.specs.Answers.{Answers}
-use Rattle.mt_kernel.specs.EnvironmentOf.{environment_of}
+use Rattle.mt_term.specs.EnvironmentOf.{environment_of}
 use Rattle.mt_kernel.proofs.comparison.+convert.Goals as goal
 
 pub convert-returns-clause-answer : goal.convert-returns-clause-answer

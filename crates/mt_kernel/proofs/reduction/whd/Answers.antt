@@ -4,7 +4,7 @@ use Rattle.mt_term.specs.Stores.{no_store}
 use Rattle.mt_term.specs.Trees.{End}
 use Rattle.mt_term.specs.TreeOf.{tree_of}
 use Rattle.mt_term.proofs.WeakHeadLaws.{look-rest}
-use Rattle.mt_kernel.specs.EnvironmentOf.{environment_of}
+use Rattle.mt_term.specs.EnvironmentOf.{environment_of}
 use Rattle.mt_kernel.proofs.reduction.whd.Goals as goal
 
 pub loop-head-smaller : goal.loop-head-smaller

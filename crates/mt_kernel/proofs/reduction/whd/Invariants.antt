@@ -1,5 +1,5 @@
 use Rattle.std.proofs.Common.{◌≡◌, ◌+◌}
-use Rattle.mt_kernel.specs.EnvironmentOf.{environment_of}
+use Rattle.mt_term.specs.EnvironmentOf.{environment_of}
 use Rattle.mt_term.specs.Stores.{no_store}
 use Rattle.mt_term.specs.TreeOf.{tree_of}
 use Rattle.mt_term.specs.WeakHead.{whd}
