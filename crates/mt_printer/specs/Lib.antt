@@ -1,0 +1,4 @@
+pub mod Columns
+pub mod Chosen
+pub mod TermText
+pub mod Examples
