@@ -1,0 +1,2 @@
+mod Built
+pub mod Region
