@@ -1,7 +1,7 @@
 -- The trees of a pool's nodes.
-use Rattle.std.proofs.Common.{ℕ, zero, suc, ◌+◌, ◌<◌, ◌≡◌, List, [], ◌∷◌, ◌++◌, length, slice_index_or, refl, sym, ◌∙◌, append_assoc, length-append, arith, add-zero, zero-add}
+use Rattle.std.proofs.Common.{ℕ, zero, suc, ◌+◌, ◌<◌, ◌≡◌, List, [], ◌∷◌, ◌++◌, length, slice_index_or, refl, sym, ◌∙◌, append_assoc, length-append, arith, add-zero, zero-add, ap, take, ◌≤◌, OnErr, Result, Ok, Err}
 use Rattle.std.proofs.lemmas.List.{append-nil}
-use Rattle.std.proofs.Math.Seq.{get_or-append_seam}
+use Rattle.std.proofs.Math.Seq.{get_or-append_seam, take-append_seam}
 use Rattle.std.proofs.lemmas.Grind.{common_steps}
 use Rattle.mt_term.specs.Trees.{Tree, Bytes, Var, Prod, Lam, App, Match, Meta, Item, Arm}
 use Rattle.mt_pool.specs.declared.nodes.TermId.{TermId}
@@ -107,3 +107,24 @@ put-held xs x = omega (arith, length-built [] (xs ++ x ∷ []), length-append xs
 pub put-kept : (xs : List Node) (x : Node) → Kept (built [] xs) (built [] (xs ++ x ∷ []))
 unfolding Kept
 put-kept xs x = (tree_in (built [] xs) x ∷ [], built-push [] xs x)
+
+pub order-take : (m n : ℕ) (xs : List Node) → InOrder m xs → InOrder m (take n xs)
+order-take m zero xs h = tt
+order-take m (suc n) [] h = tt
+order-take m (suc n) (x ∷ xs) h = (h.0, order-take (m + 1) n xs h.1)
+
+built-take : (p : List Tree) (n : ℕ) (xs : List Node) → n ≤ length xs → built p (take n xs) ≡ take (length p + n) (built p xs)
+unfolding Kept
+built-take p zero xs h =
+    let k = built-more p xs in rw (add-zero, k.1) (sym (take-append_seam p k.0))
+built-take p (suc n) [] h = absurd (omega arith)
+built-take p (suc n) (x ∷ xs) h =
+    let e : length (p ++ tree_in p x ∷ []) + n ≡ length p + suc n = omega (arith, length-append p (tree_in p x ∷ [])) in
+    built-take (p ++ tree_in p x ∷ []) n xs (omega arith) ∙ ap (λ k. take k (built p (x ∷ xs))) e
+
+pub pool-take : (n : ℕ) (xs : List Node) → n ≤ length xs → built [] (take n xs) ≡ take n (built [] xs)
+pool-take n xs h = built-take [] n xs h ∙ ap (λ k. take k (built [] xs)) (zero-add n)
+
+pub on_err : {T E : Type 0} (r : Result T E) (P : Type 0) → P → OnErr r P
+on_err (Ok x) P h = tt
+on_err (Err e) P h = h

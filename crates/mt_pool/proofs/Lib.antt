@@ -1,2 +1,3 @@
 mod Built
 pub mod Region
+mod Replaced

@@ -1,6 +1,7 @@
 -- What stays as a pool grows.
-use Rattle.std.proofs.Common.{ℕ, ◌<◌, ◌≤◌, ◌≡◌, List, [], ◌∷◌, ◌++◌, length, sym, append_assoc, length-append, arith}
+use Rattle.std.proofs.Common.{ℕ, ◌<◌, ◌≤◌, ◌≡◌, List, [], ◌∷◌, ◌++◌, length, take, sym, ◌∙◌, append_assoc, length-append, arith}
 use Rattle.std.proofs.lemmas.List.{append-nil}
+use Rattle.std.proofs.Math.Seq.{take-append_seam}
 use Rattle.mt_term.specs.Trees.{Tree, Bytes}
 use Rattle.mt_pool.specs.declared.nodes.TermId.{TermId}
 use Rattle.mt_pool.specs.declared.nodes.Node.{Node}
@@ -55,6 +56,16 @@ below-more n m (IndNode e) l h = tt
 below-more n m (ConNode e k) l h = tt
 below-more n m (MatchNode e r c bs) l h = (omega (arith, h.0), omega (arith, h.1), arms-more n m (branches_of bs) l h.2)
 below-more n m (MetaNode e s) l h = all-more n m (ids_of s) l h
+
+-- a pool cut to its old length is the old one
+pub kept-cut : (p q : List Tree) → Kept p q → take (length p) q ≡ p
+unfolding Kept
+kept-cut p q h = rw h.1 (take-append_seam p h.0)
+
+pub cut-kept : (p q r : List Tree) → Kept p q → r ≡ take (length p) q → Kept p r
+cut-kept p q r h e = let s : r ≡ p = e ∙ kept-cut p q h in rw s (kept-same p)
+
+pub ruleset restored = (kept-cut, cut-kept)
 
 -- of a larger pool
 pub all-below : (p q : List Tree) (ks : List TermId) → Kept p q → AllBelow (length p) ks → AllBelow (length q) ks

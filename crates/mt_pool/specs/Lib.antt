@@ -1,2 +1,4 @@
 pub mod Region
 pub mod HeldOf
+pub mod Replaced
+pub mod Sizes

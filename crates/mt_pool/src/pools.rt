@@ -1,5 +1,5 @@
 // The pool.
-ghost use Rattle.std.specs.Prelude.{◌≡◌, ◌<◌, [], length, IfOk, OnErr};
+ghost use Rattle.std.specs.Prelude.{◌≡◌, ◌<◌, ◌≤◌, [], length, take, IfOk, OnOk, OnErr};
 ghost use Rattle.mt_pool.specs.Region.{tree_at, tree_in, Below, Kept, Names};
 
 use crate::nodes::{Node, TermId};
@@ -60,5 +60,28 @@ impl Pool {
         let at = self.nodes.len();
         self.nodes.push(node)?;
         Ok(TermId { at })
+    }
+    /// How many ids are held.
+    pub fn len(&self) -> usize
+        ensures { result ≡ length self.now }
+    {
+        self.nodes.len()
+    }
+
+    // What was made, or after want of memory the pool with as many ids as were held before.
+    pub(crate) fn settle(
+        &mut self,
+        held: usize,
+        made: Result<TermId, OutOfMemory>,
+    ) -> Result<TermId, OutOfMemory>
+        requires { held ≤ length self.old }
+        ensures same { result ≡ made }
+        ensures ok { OnOk made (self.new ≡ self.old) }
+        ensures err { OnErr made (self.new ≡ take held self.old) }
+    {
+        if made.is_err() {
+            self.nodes.truncate(held);
+        }
+        made
     }
 }
