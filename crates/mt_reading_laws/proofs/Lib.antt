@@ -1,0 +1,15 @@
+mod Bytes
+mod Words
+mod Signs
+mod Seen
+mod Rows
+mod Sorts
+mod Chosen_names
+mod Scopes
+mod Parts
+mod Heads
+mod Atoms
+mod Leaves
+mod Binders
+mod Law
+mod Premises
