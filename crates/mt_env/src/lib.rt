@@ -1,0 +1,11 @@
+//! Environments held in a pool: entries by number, by name and by mark, and the graph of their universes.
+#![tactic(auto)]
+
+mod environments;
+mod refs;
+mod stops;
+mod table;
+
+pub use environments::{Env, EnvMark};
+pub use refs::Ref;
+pub use stops::EnvStop;
