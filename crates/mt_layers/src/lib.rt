@@ -1,0 +1,18 @@
+//! What the layers share: the parts that they work on, charges, and the traits by which one layer calls another.
+#![tactic(auto)]
+
+mod convert;
+mod environment;
+mod infer;
+mod nodes;
+#[cfg(test)]
+mod tests;
+mod whd;
+mod work;
+
+pub use convert::Convert;
+pub use environment::{HeldEnv, constructor_type, entry, type_of_constructor};
+pub use infer::Infer;
+pub use nodes::{copy_branches, copy_ids, copy_node};
+pub use whd::Whd;
+pub use work::Work;

@@ -1,0 +1,63 @@
+// Nodes, copied out of a pool that is then changed.
+ghost use Rattle.std.specs.Prelude.{◌≡◌, ◌<◌, length, IfOk};
+ghost use Rattle.mt_pool.specs.Region.{branches_of, ids_of, tree_at, tree_in, Below};
+
+use mt_pool::{BranchIds, Node, Pool, TermId, TermIds};
+use mt_term::{MOST_DEEP, OutOfMemory, deeper};
+use std::alloc::{AllocFailed, Global};
+use std::clone::Clone;
+
+/// The same ids. A list of more than `deep` counts as want of memory.
+pub fn copy_ids(alloc: Global, s: &TermIds, deep: usize) -> Result<TermIds, OutOfMemory>
+    ensures { IfOk result (λ r. ids_of r ≡ ids_of s.now) }
+{
+    let deep = deeper(deep)?;
+    match s {
+        TermIds::End => Ok(TermIds::End),
+        TermIds::Item(t, rest) => {
+            let rest = Box::new(alloc, copy_ids(alloc, rest, deep)?)?;
+            Ok(TermIds::Item(*t, rest))
+        }
+    }
+}
+
+/// The same branches. More than `deep` of them count as want of memory.
+pub fn copy_branches(alloc: Global, bs: &BranchIds, deep: usize) -> Result<BranchIds, OutOfMemory>
+    ensures { IfOk result (λ cs. branches_of cs ≡ branches_of bs.now) }
+{
+    let deep = deeper(deep)?;
+    match bs {
+        BranchIds::End => Ok(BranchIds::End),
+        BranchIds::Item(names, body, rest) => {
+            let rest = Box::new(alloc, copy_branches(alloc, rest, deep)?)?;
+            Ok(BranchIds::Item(names.clone()?, *body, rest))
+        }
+    }
+}
+
+/// A copy of the node of an id.
+#[tactic(auto, using(mt_pool::proofs::Region::kept))]
+pub fn copy_node(alloc: Global, pool: &Pool, id: TermId) -> Result<Node, OutOfMemory>
+    requires { id.at < length pool.now }
+    ensures tree { IfOk result (λ node. tree_at pool.now id ≡ tree_in pool.now node) }
+    ensures below { IfOk result (λ node. Below (length pool.now) node) }
+{
+    match pool.node(id) {
+        Node::Var(i) => Ok(Node::Var(*i)),
+        Node::Sort(s) => Ok(Node::Sort(s.clone()?)),
+        Node::Prod(x, a, b) => Ok(Node::Prod(x.clone()?, *a, *b)),
+        Node::Lam(x, a, b) => Ok(Node::Lam(x.clone()?, *a, *b)),
+        Node::App(f, a) => Ok(Node::App(*f, *a)),
+        Node::Const(c) => Ok(Node::Const(*c)),
+        Node::Ind(e) => Ok(Node::Ind(*e)),
+        Node::Con(e, k) => Ok(Node::Con(*e, *k)),
+        Node::Match(e, r, c, bs) => {
+            let bs = copy_branches(alloc, bs, MOST_DEEP)?;
+            Ok(Node::Match(*e, *r, *c, bs))
+        }
+        Node::Meta(n, s) => {
+            let s = copy_ids(alloc, s, MOST_DEEP)?;
+            Ok(Node::Meta(*n, s))
+        }
+    }
+}

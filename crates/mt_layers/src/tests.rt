@@ -1,0 +1,95 @@
+// The parts that layers share, with ample memory.
+ghost use Rattle.std.specs.Prelude.{◌≡◌, ◌<◌};
+
+use crate::{
+    HeldEnv, Work, constructor_type, copy_branches, copy_ids, copy_node, entry, type_of_constructor,
+};
+use mt_pool::{BranchIds, Held, HeldCons, HeldConstructor, Node, Pool, TermIds};
+use mt_term::{Name, OutOfMemory, Sort, Term};
+use mt_text::{Ledger, PlainLedger, Steps};
+use std::alloc::{AllocFailed, Global};
+use std::sync::ledger::Blank;
+use std::test::Fail;
+
+// Whether a first and a second charge are taken, and what is left.
+fn charged<L: Ledger>(alloc: Global, left: u64, blank: Blank) -> (bool, bool, u64)
+    requires name { blank.name ≡ L.name }
+    requires parts { blank.parts ≡ L.parts }
+    requires some { 0 < L.parts }
+{
+    let mut steps = Steps::<L>::new(blank);
+    let mut pool = Pool::new(alloc);
+    let env = HeldEnv::new(alloc);
+    let mut w = Work {
+        pool: &mut pool,
+        env: &env,
+        left,
+    };
+    let first = w.charge(&mut steps).is_ok();
+    let second = w.charge(&mut steps).is_ok();
+    (first, second, w.left)
+}
+
+fn charged_from(alloc: Global, left: u64) -> (bool, bool, u64) {
+    charged::<PlainLedger>(alloc, left, Blank::new(1))
+}
+
+#[test]
+fn charges_are_taken_while_any_are_left(rt: HostRuntime) {
+    assert_eq!(rt; charged_from(rt.alloc(), 0), (false, false, 0));
+    assert_eq!(rt; charged_from(rt.alloc(), 1), (true, false, 0));
+    assert_eq!(rt; charged_from(rt.alloc(), 9), (true, true, 7));
+}
+
+// An axiom and an inductive type with one constructor, both of one type.
+fn some_entries(alloc: Global, pool: &mut Pool) -> Result<HeldEnv, OutOfMemory> {
+    let ty = pool.import(alloc, &Term::Sort(Sort::Prop))?;
+    let mut cons = HeldCons::new(alloc);
+    cons.push(HeldConstructor {
+        name: Name::new(alloc),
+        ty,
+    })?;
+    let mut env = HeldEnv::new(alloc);
+    env.entries.push(Held::Axiom {
+        name: Name::new(alloc),
+        ty,
+    })?;
+    env.entries.push(Held::Inductive {
+        name: Name::new(alloc),
+        co: false,
+        params: 0,
+        ty,
+        cons,
+        large: true,
+    })?;
+    Ok(env)
+}
+
+#[test]
+fn entries_are_found_by_number(rt: HostRuntime) -> Result<(), Fail> {
+    let alloc = rt.alloc();
+    let mut pool = Pool::new(alloc);
+    let env = some_entries(alloc, &mut pool)?;
+    assert!(rt; env.is_held_in(&pool));
+    assert!(rt; !env.is_held_in(&Pool::new(alloc)));
+    assert!(rt; matches!(entry(&env, 0), Some(Held::Axiom { .. })));
+    assert!(rt; entry(&env, 2).is_none());
+    assert!(rt; constructor_type(&env, 1, 0).is_some());
+    assert!(rt; constructor_type(&env, 1, 1).is_none());
+    assert!(rt; constructor_type(&env, 0, 0).is_none());
+    assert!(rt; type_of_constructor(&HeldCons::new(alloc), 0).is_none());
+    Ok(())
+}
+
+#[test]
+fn nodes_are_copied(rt: HostRuntime) -> Result<(), Fail> {
+    let alloc = rt.alloc();
+    let mut pool = Pool::new(alloc);
+    let id = pool.import(alloc, &Term::Con(3, 4))?;
+    assert!(rt; matches!(copy_node(alloc, &pool, id)?, Node::Con(3, 4)));
+    let ids = copy_ids(alloc, &TermIds::End, 1)?;
+    assert!(rt; matches!(ids, TermIds::End));
+    let branches = copy_branches(alloc, &BranchIds::End, 1)?;
+    assert!(rt; matches!(branches, BranchIds::End));
+    Ok(())
+}
