@@ -1,4 +1,10 @@
 pub mod Columns
 pub mod Chosen
 pub mod TermText
+pub mod Telescopes
+pub mod EnvText
+pub mod GoalsText
+pub mod ScopeOf
+pub mod Prints
 pub mod Examples
+pub mod EnvExamples
