@@ -1,18 +1,24 @@
 // Environments.
-ghost use Rattle.std.specs.Prelude.{◌≡◌, ◌<◌, ◌≤◌, Some, [], List, length, take, slice_get, IsSome, OnOk, OnErr, IfErr};
+ghost use Rattle.std.specs.Prelude.{◌≡◌, ◌<◌, ◌≤◌, Some, [], ◌∷◌, ◌++◌, List, length, IfOk, take, slice_get, IsSome, OnOk, OnErr, IfErr};
 ghost use Rattle.mt_term.specs.Naming.{named};
 ghost use Rattle.mt_term.specs.Trees.{Tree};
 ghost use Rattle.mt_universe.specs.Graphs.{declared};
 ghost use Rattle.mt_universe.specs.Refusals.{IsRefusedBy};
-ghost use Rattle.mt_env.specs.Environments.{HeldEnvironment, declarations_in, no_entries, back_at, type_named, type_held, constructor_type, names_held};
-ghost use Rattle.mt_env.specs.Names.{said};
+ghost use Rattle.mt_env.specs.Environments.{HeldEnvironment, declarations_in, no_entries, back_at, type_named, type_held, constructor_type, names_held, IsAdded};
+ghost use Rattle.mt_env.specs.Names.{said, Distinct};
+ghost use Rattle.mt_env.specs.Refusals.{IsRefusedBy as IsRefusal};
+ghost use Rattle.mt_pool.specs.Region.{Kept};
+ghost use Rattle.mt_term.specs.EntryOf.{declaration_of};
 
+use crate::adding::enter_all;
+use crate::holding::hold;
 use crate::refs::Ref;
+use crate::stops::EnvStop;
 use crate::table::Table;
-use mt_pool::{Held, TermId};
-use mt_term::Name;
+use mt_pool::{Held, Pool, TermId};
+use mt_term::{Entry, Name, OutOfMemory};
 use mt_universe::{Graph, GraphStop};
-use std::alloc::Global;
+use std::alloc::{AllocFailed, Global};
 use std::marker::Model;
 
 /// Entries and a graph of universes, seen as the entries, oldest first, and the names and constraints of the graph.
@@ -106,6 +112,28 @@ impl Env {
         }
     }
 
+    /// Adds an entry, which gets the next number. `Taken` comes exactly where one of its names is in use or stands twice in it.
+    pub fn add(&mut self, alloc: Global, pool: &mut Pool, entry: &Entry) -> Result<usize, EnvStop>
+        ensures kept { Kept pool.old pool.new }
+        ensures number { IfOk result (λ n. n ≡ length self.old.entries) }
+        ensures added { OnOk result (IsAdded self.old self.new pool.new (declaration_of entry.now)) }
+        ensures distinct { OnOk result (Distinct (names_held self.new.entries)) }
+        ensures err { OnErr result (self.new ≡ self.old) }
+        ensures cause { IfErr result (λ e. IsRefusal e self.old.entries (declaration_of entry.now)) }
+    {
+        let number = self.entries.len();
+        let start = self.table.len();
+        let held = hold(alloc, pool, entry)?;
+        enter_all(alloc, &mut self.table, number, entry)?;
+        match list(&mut self.entries, &mut self.starts, held, start) {
+            Ok(()) => Ok(number),
+            Err(stop) => {
+                self.table.truncate(start);
+                Err(EnvStop::from(stop))
+            }
+        }
+    }
+
     /// Adds the constraint that universe `a` is below universe `b`, as the graph does.
     pub fn constrain(&mut self, a: Name, b: Name) -> Result<(), GraphStop>
         ensures ok { OnOk result (self.new ≡ record self.old { graph = declared self.old.graph a b }) }
@@ -137,6 +165,37 @@ impl Env {
         self.starts.truncate(mark.entries);
         self.entries.truncate(mark.entries);
         self.graph.back_to(mark.constraints);
+    }
+}
+
+fn push_held(entries: &mut Vec<Held>, held: Held) -> Result<(), OutOfMemory>
+    ensures ok { OnOk result (entries.new.items ≡ entries.old.items ++ held ∷ []) }
+    ensures err { OnErr result (entries.new.items ≡ entries.old.items) }
+{
+    entries.push(held)?;
+    Ok(())
+}
+
+// Lists an entry and where its names begin.
+fn list(
+    entries: &mut Vec<Held>,
+    starts: &mut Vec<usize>,
+    held: Held,
+    start: usize,
+) -> Result<(), OutOfMemory>
+    ensures entries { OnOk result (entries.new.items ≡ entries.old.items ++ held ∷ []) }
+    ensures starts { OnOk result (starts.new.items ≡ starts.old.items ++ start ∷ []) }
+    ensures err { OnErr result
+        ((entries.new.items ≡ entries.old.items) × (starts.new.items ≡ starts.old.items)) }
+{
+    let before = starts.len();
+    starts.push(start)?;
+    match push_held(entries, held) {
+        Ok(()) => Ok(()),
+        Err(stop) => {
+            starts.truncate(before);
+            Err(stop)
+        }
     }
 }
 

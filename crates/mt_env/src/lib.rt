@@ -1,7 +1,9 @@
 //! Environments held in a pool: entries by number, by name and by mark, and the graph of their universes.
 #![tactic(auto)]
 
+mod adding;
 mod environments;
+mod holding;
 mod refs;
 mod stops;
 mod table;
