@@ -1,0 +1,10 @@
+//! Positivity of inductive types.
+#![tactic(auto)]
+
+mod arguments;
+mod constructors;
+#[cfg(test)]
+mod tests;
+
+pub use arguments::{Family, avoid_terms, avoids, is_recursive, is_type_on};
+pub use constructors::positive;
