@@ -1,0 +1,12 @@
+-- A normal form is reached by contractions.
+use Rattle.std.proofs.Common.{◌≡◌, ℕ}
+use Rattle.mt_term.specs.Trees.{Tree}
+use Rattle.mt_term.specs.Declarations.{Environment}
+use Rattle.mt_term.specs.Charges.{Done}
+use Rattle.mt_term.specs.Stores.{Store}
+use Rattle.mt_term.specs.WeakHead.{normal}
+use Rattle.mt_term.specs.ReductionLaws.{ReachedFrom}
+use Rattle.mt_term.proofs.ReductionTheorems.{normal_form_law}
+
+pub normal_by : (E : Environment) (S : Store) (t u : Tree) (n l : ℕ) → normal E S t n ≡ Done u l → ReachedFrom E S t u
+normal_by E S t u n l e = normal_form_law E S t u n l e

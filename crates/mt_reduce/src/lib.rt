@@ -1,0 +1,12 @@
+//! Weak heads and normal forms by substitution on ids.
+#![tactic(auto)]
+
+mod arguments;
+mod branches;
+mod normalization;
+mod reducer;
+mod reduction;
+#[cfg(test)]
+mod tests;
+
+pub use reducer::Reducer;

@@ -1,0 +1,63 @@
+// The layer of weak heads.
+ghost use Rattle.std.specs.Prelude.{◌≡◌, ◌<◌, ◌+◌, length, IfOk, IfErr};
+ghost use Rattle.mt_layers.specs.Environments.{environment_in, EnvBelow};
+ghost use Rattle.mt_layers.specs.Meets.{Meets, IsNoRefusal};
+ghost use Rattle.mt_pool.specs.Region.{tree_at, Kept};
+ghost use Rattle.mt_term.specs.ReductionLaws.{ReachedFrom};
+ghost use Rattle.mt_term.specs.Stores.{no_store};
+ghost use Rattle.mt_term.specs.WeakHead.{normal};
+
+use crate::normalization::normal;
+use crate::reduction::whd;
+use mt_layers::{Whd, Work};
+use mt_pool::TermId;
+use mt_term::{MOST_DEEP, Stop};
+use mt_text::{Ledger, Steps};
+use std::alloc::Global;
+
+/// Reduces by substitution on ids.
+#[derive(Clone, Copy)]
+pub struct Reducer {}
+
+impl Reducer {
+    /// It takes no memory.
+    pub fn new() -> Reducer {
+        Reducer {}
+    }
+
+    /// The normal form of the term, which is reached from it by contractions. It is never refused.
+    #[tactic(auto, using(crate::proofs::Reached::normal_by))]
+    pub fn normal<L: Ledger>(
+        &self,
+        alloc: Global,
+        w: &mut Work<'_>,
+        t: TermId,
+        steps: &mut Steps<L>,
+    ) -> Result<TermId, Stop>
+        requires held { t.at < length w.old.pool.now }
+        requires env_held { EnvBelow (length w.old.pool.now) w.old.env.now }
+        ensures same_pool { w.new.pool.ghost_name ≡ w.old.pool.ghost_name }
+        ensures env { w.new.env ≡ w.old.env }
+        ensures kept { Kept w.old.pool.now w.new.pool.now }
+        ensures outcome { Meets (tree_at w.new.pool.now) (normal (environment_in w.old.pool.now w.old.env.now) no_store (tree_at w.old.pool.now t) w.old.left) w.new.left result }
+        ensures result_held { IfOk result (λ u. u.at < length w.new.pool.now) }
+        ensures unrefused { IfErr result (λ e. IsNoRefusal e) }
+        ensures reached { IfOk result (λ u. ReachedFrom (environment_in w.old.pool.now w.old.env.now) no_store (tree_at w.old.pool.now t) (tree_at w.new.pool.now u)) }
+        ensures cost { steps.new + w.new.left ≡ steps.old + w.old.left }
+    {
+        normal(alloc, w, t, MOST_DEEP, steps)
+    }
+}
+
+impl Whd for Reducer {
+    #[tactic(auto, using(mt_layers::proofs::Kept::reached_by))]
+    fn whd<L: Ledger>(
+        &self,
+        alloc: Global,
+        w: &mut Work<'_>,
+        t: TermId,
+        steps: &mut Steps<L>,
+    ) -> Result<TermId, Stop> {
+        whd(alloc, w, t, MOST_DEEP, steps)
+    }
+}
