@@ -1,6 +1,6 @@
 -- The forms of raw terms that can be taken by their names.
 use Rattle.std.specs.Prelude.{Bool, true, false, ◌&&◌}
-use Rattle.mt_term_parser.specs.Written.{Written, Form, Domain, Arguments, Cases, Term, Name, Con, Hole, Vector, Sort, Lam, Prod, App, Match, Cast, Absent, Given, NoArgument, Argument, NoCase, Case}
+use Rattle.mt_term_parser.specs.Written.{Written, Form, Arguments, Cases, Term, Name, Sort, Lam, Prod, App, Match, Given, NoArgument, Argument, NoCase, Case}
 
 abbrev pub has_case : Cases → Bool
 has_case NoCase = false

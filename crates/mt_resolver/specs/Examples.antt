@@ -1,6 +1,6 @@
 -- Short terms taken by their names.
-use Rattle.std.specs.Prelude.{◌≡◌, true, false, ℕ, List, [], ◌∷◌, codes, refl}
-use Rattle.mt_term.specs.Trees.{Tree, Bytes, Var, Sort, Prod, Lam, App, Const, Ind, Con, Match, NoArm, Arm}
+use Rattle.std.specs.Prelude.{◌≡◌, true, false, ℕ, [], ◌∷◌, codes, refl}
+use Rattle.mt_term.specs.Trees.{Bytes, Var, Sort, Prod, Lam, App, Const, Ind, Con, Match, NoArm, Arm}
 use Rattle.mt_term.specs.Declarations.{Axiom, Inductive, Environment, Unbound, BadElimination, NotHere}
 use Rattle.mt_term.specs.Universes.{normal_form}
 use Rattle.mt_term.specs.declared.universes.Sort.TheVariants.{Prop, Typ}

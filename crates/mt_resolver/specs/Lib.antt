@@ -1,4 +1,9 @@
 pub mod Built
+pub mod Counts
 pub mod Examples
+pub mod Fitting
 pub mod Resolution
 pub mod Resolves
+pub mod ScopeOf
+pub mod Sums
+pub mod TableOf

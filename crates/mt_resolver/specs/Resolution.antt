@@ -1,12 +1,11 @@
 -- Raw terms taken by their names: the terms that they stand for, or the first fault from the left.
-use Rattle.std.specs.Prelude.{ℕ, zero, suc, ◌+◌, max, Bool, true, false, ◌&&◌, nat_eq, if◌then◌else◌, List, [], ◌∷◌, length, Option, Some, None, slice_get}
+use Rattle.std.specs.Prelude.{ℕ, suc, ◌+◌, max, Bool, true, false, ◌&&◌, nat_eq, if◌then◌else◌, List, [], ◌∷◌, length, Option, Some, None, slice_get}
 use Rattle.std.specs.Str.{bytes_eq}
-use Rattle.mt_term.specs.Trees.{Tree, Arms, Bytes, Var, Sort, Prod, Lam, App, Const, Ind, Con, Match, Meta, NoArm, Arm}
-use Rattle.mt_term.specs.Declarations.{Constructor, Declaration, Axiom, Definition, Inductive, Recursive, Environment, Reason, Unbound, BadElimination, NotHere}
+use Rattle.mt_term.specs.Trees.{Tree, Arms, Bytes, Var, Sort, Prod, Lam, App, Con, Match, NoArm, Arm}
+use Rattle.mt_term.specs.Declarations.{Constructor, Declaration, Inductive, Environment, Reason, Unbound, BadElimination, NotHere}
 use Rattle.mt_term.specs.Naming.{named}
 use Rattle.mt_term.specs.Contraction.{products}
 use Rattle.mt_term.specs.Universes.{normal_form}
-use Rattle.mt_term.specs.declared.universes.Atom.{Atom}
 use Rattle.mt_term.specs.declared.universes.UnivExpr.{UnivExpr}
 use Rattle.mt_term.specs.declared.universes.Sort.TheVariants as sort
 use Rattle.mt_term_parser.specs.Written as raw

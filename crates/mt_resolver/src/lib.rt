@@ -1,8 +1,18 @@
 //! Raw terms taken by their names.
 #![tactic(auto)]
 
+mod arms;
 mod built;
+mod meanings;
+mod resolving;
+mod scopes;
+mod sorts;
+mod table;
 #[cfg(test)]
 mod tests;
 
 pub use built::is_built;
+pub use meanings::Meaning;
+pub use resolving::resolve;
+pub use scopes::Scope;
+pub use table::Table;
