@@ -1,11 +1,11 @@
 -- Inference, as the code takes it apart.
 use Rattle.std.proofs.Common.{ℕ, ◌≡◌, ◌-◌, ◌<◌, ◌≤◌, List, [], Option, Some, None, true, false, refl, ap, ◌∙◌, arith}
 use Rattle.std.specs.Prelude.{slice_get}
-use Rattle.mt_term.specs.Trees.{Tree, Var, Sort, Prod, Lam, App, Const, Ind, Con, Match, Meta}
+use Rattle.mt_term.specs.Trees.{Tree, Trees, Var, Sort, Prod, Lam, App, Const, Ind, Con, Match, Meta}
 use Rattle.mt_term.specs.declared.universes.Sort.{Sort as AnySort}
 use Rattle.mt_term.specs.declared.modes.Mode.{Mode}
 use Rattle.mt_term.specs.declared.environment.PlainEnv.{PlainEnv}
-use Rattle.mt_term.specs.Declarations.{Hypothesis, Declaration, Environment, Mismatch, NotASort, NotAFunction, Unbound, constructor_at}
+use Rattle.mt_term.specs.Declarations.{Hypothesis, Constructor, Declaration, Environment, Mismatch, NotASort, NotAFunction, Unbound, constructor_at}
 use Rattle.mt_term.specs.Charges.{Done, Refused, rest}
 use Rattle.mt_term.specs.Stores.{Store, no_store}
 use Rattle.mt_term.specs.Universes.{sort_above}
@@ -63,6 +63,25 @@ module _ (env : PlainEnv) (Γ : List Hypothesis) (c n : ℕ) (o : Option Declara
   pub constant_missing : 0 < n → slice_get env.entries c ≡ o → constant_type o ≡ None → infer (environment_of env) no_store Γ (Const c) n ≡ Refused (Unbound []) (n - 1)
   constant_missing h e f = infer-const_none (environment_of env) no_store Γ c n h (ap constant_type e ∙ f)
 
+-- the types of an inductive type and of a constructor
+module _ (env : PlainEnv) (Γ : List Hypothesis) (e n : ℕ) (o : Option Declaration) where
+  pub inductive_found : (t : Tree) → 0 < n → slice_get env.entries e ≡ o → inductive_type o ≡ Some t → infer (environment_of env) no_store Γ (Ind e) n ≡ Done t (n - 1)
+  inductive_found t h p f = infer-ind_done (environment_of env) no_store Γ e t n h (ap inductive_type p ∙ f)
+
+  pub inductive_missing : 0 < n → slice_get env.entries e ≡ o → inductive_type o ≡ None → infer (environment_of env) no_store Γ (Ind e) n ≡ Refused (Unbound []) (n - 1)
+  inductive_missing h p f = infer-ind_none (environment_of env) no_store Γ e n h (ap inductive_type p ∙ f)
+
+module _ (env : PlainEnv) (Γ : List Hypothesis) (e k n : ℕ) (o : Option Constructor) where
+  pub constructor_found : (t : Tree) → 0 < n → constructor_at env.entries e k ≡ o → constructor_type o ≡ Some t → infer (environment_of env) no_store Γ (Con e k) n ≡ Done t (n - 1)
+  constructor_found t h p f = infer-con_done (environment_of env) no_store Γ e k t n h (ap constructor_type p ∙ f)
+
+  pub constructor_missing : 0 < n → constructor_at env.entries e k ≡ o → constructor_type o ≡ None → infer (environment_of env) no_store Γ (Con e k) n ≡ Refused (Unbound []) (n - 1)
+  constructor_missing h p f = infer-con_none (environment_of env) no_store Γ e k n h (ap constructor_type p ∙ f)
+
+-- there is no metavariable
+pub no_meta : (E : Environment) (Γ : List Hypothesis) (m : ℕ) (s : Trees) (n : ℕ) → 0 < n → infer E no_store Γ (Meta m s) n ≡ Refused (Unbound []) (n - 1)
+no_meta E Γ m s n h = infer-meta-meta_none E no_store Γ m s n h refl
+
 -- inference takes at least one charge
 module _ (E : Environment) (Γ : List Hypothesis) (n : ℕ) (h : 0 < n) where
   var_charged : (i : ℕ) (o : Option Tree) → type_at Γ i ≡ o → rest (infer E no_store Γ (Var i) n) ≤ n - 1
@@ -103,4 +122,4 @@ pub ruleset product_rules = (as_product_rules, product_given, product_refused)
 
 pub ruleset agree_rules = (agreement_rules, agreement_yes, agreement_no)
 
-pub ruleset inference_rules = (infer_rules, application_rules, infer_charged, constant_found, constant_missing)
+pub ruleset inference_rules = (infer_rules, application_rules, infer_charged, constant_found, constant_missing, inductive_found, inductive_missing, constructor_found, constructor_missing, no_meta)

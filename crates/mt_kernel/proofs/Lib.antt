@@ -1,7 +1,12 @@
 pub mod Rows
+pub mod Lists
 pub mod Verdicts
 pub mod Unfolding
 pub mod Apart
 pub mod Applying
 pub mod Inferring
+pub mod Eliminating
+pub mod Branching
+pub mod Matches
+pub mod Free
 pub mod Typed

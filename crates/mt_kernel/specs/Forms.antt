@@ -4,7 +4,7 @@ use Rattle.mt_term.specs.Trees.{Tree, Sort, Prod}
 use Rattle.mt_term.specs.declared.universes.Sort.{Sort as AnySort}
 use Rattle.mt_term.specs.Inference.{Product}
 use Rattle.mt_term.specs.TreeOf.{tree_of}
-use Rattle.mt_kernel.specs.declared.inference.Product.{Product as Held}
+use Rattle.mt_kernel.specs.declared.expected.Product.{Product as Held}
 
 abbrev pub sort_in : Tree → Option AnySort
 sort_in (Sort s) = Some s

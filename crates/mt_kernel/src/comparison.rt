@@ -1,15 +1,16 @@
 // The comparison of two terms.
-ghost use Rattle.std.specs.Prelude.{◌≡◌, ◌+◌, []};
+ghost use Rattle.std.specs.Prelude.{◌≡◌, ◌+◌, IfOk};
 ghost use Rattle.mt_kernel.specs.Answers.{Answers};
+ghost use Rattle.mt_term.proofs.ComparisonRules.{matches};
 ghost use Rattle.mt_term.specs.EnvironmentOf.{environment_of};
-ghost use Rattle.mt_term.specs.Comparison.{convert, heads, spines};
+ghost use Rattle.mt_term.specs.Comparison.{bodies, convert, heads, same_shapes, spines, terms};
 ghost use Rattle.mt_term.specs.Stores.{no_store};
-ghost use Rattle.mt_term.specs.TreeOf.{tree_of};
+ghost use Rattle.mt_term.specs.TreeOf.{arms_of, tree_of, trees_of};
 
 use crate::charges::charge;
 use crate::reduction::whd;
 use crate::sorts::sorts_fit;
-use mt_term::{Mode, PlainEnv, Stop, Term, alike, copy, deeper};
+use mt_term::{Branches, Mode, OutOfMemory, PlainEnv, Stop, Term, Terms, alike, copy, deeper};
 use mt_text::{Ledger, Steps};
 use std::alloc::Global;
 
@@ -107,8 +108,21 @@ fn same_spine<L: Ledger>(
             }
             convert(alloc, env, Mode::Equal, a, b, left, deep, steps)
         }
-        (Term::Meta(..), Term::Meta(..)) => Err(Stop::OutOfMemory),
-        (Term::Match(..), Term::Match(..)) => Err(Stop::OutOfMemory),
+        (Term::Meta(n, s), Term::Meta(m, r)) => {
+            if *n != *m {
+                return Ok(false);
+            }
+            same_terms(alloc, env, s, r, left, deep, steps)
+        }
+        (Term::Match(e, r, c, bs), Term::Match(d, p, t, cs)) => {
+            if *e != *d || !same_shapes(bs, cs, deep)? {
+                return Ok(false);
+            }
+            if !convert(alloc, env, Mode::Equal, r, p, left, deep, steps)? {
+                return Ok(false);
+            }
+            same_matches(alloc, env, c, t, bs, cs, left, deep, steps)
+        }
         (Term::Var(_), _) => Ok(false),
         (Term::Const(_), _) => Ok(false),
         (Term::Ind(_), _) => Ok(false),
@@ -119,5 +133,108 @@ fn same_spine<L: Ledger>(
         (Term::Sort(_), _) => Ok(false),
         (Term::Prod(..), _) => Ok(false),
         (Term::Lam(..), _) => Ok(false),
+    }
+}
+
+/// Whether there are as many branches, with as many names in each.
+fn same_shapes(bs: &Branches, cs: &Branches, deep: usize) -> Result<bool, OutOfMemory>
+    ensures { IfOk result (λ b. b ≡ same_shapes (arms_of bs.now) (arms_of cs.now)) }
+{
+    let deep = deeper(deep)?;
+    match (bs, cs) {
+        (Branches::End, Branches::End) => Ok(true),
+        (Branches::Item(b, bs), Branches::Item(c, cs)) => {
+            if b.names.len() != c.names.len() {
+                return Ok(false);
+            }
+            same_shapes(bs, cs, deep)
+        }
+        (Branches::End, Branches::Item(..)) => Ok(false),
+        (Branches::Item(..), Branches::End) => Ok(false),
+    }
+}
+
+/// Whether two matched terms are convertible, and then the bodies of the branches.
+#[cycle(convert)]
+#[tactic(auto, using(mt_term::proofs::ComparisonRules::spines_rules))]
+fn same_matches<L: Ledger>(
+    alloc: Global,
+    env: &PlainEnv,
+    c: &Term,
+    t: &Term,
+    bs: &Branches,
+    cs: &Branches,
+    left: &mut u64,
+    deep: usize,
+    steps: &mut Steps<L>,
+) -> Result<bool, Stop>
+    ensures answer { Answers (λ b. b) (matches (environment_of env.now) no_store (tree_of c.now) (tree_of t.now) (arms_of bs.now) (arms_of cs.now) left.old) left.new result }
+    ensures cost { steps.new + left.new ≡ steps.old + left.old }
+{
+    let _left = *left;
+    let deep = deeper(deep)?;
+    if !convert(alloc, env, Mode::Equal, c, t, left, deep, steps)? {
+        return Ok(false);
+    }
+    same_bodies(alloc, env, bs, cs, left, deep, steps)
+}
+
+/// Whether the bodies of two lists of branches are convertible, pairwise.
+#[cycle(convert)]
+#[tactic(auto, using(mt_term::proofs::ComparisonRules::bodies_rules))]
+fn same_bodies<L: Ledger>(
+    alloc: Global,
+    env: &PlainEnv,
+    bs: &Branches,
+    cs: &Branches,
+    left: &mut u64,
+    deep: usize,
+    steps: &mut Steps<L>,
+) -> Result<bool, Stop>
+    ensures answer { Answers (λ b. b) (bodies (environment_of env.now) no_store (arms_of bs.now) (arms_of cs.now) left.old) left.new result }
+    ensures cost { steps.new + left.new ≡ steps.old + left.old }
+{
+    let _left = *left;
+    let deep = deeper(deep)?;
+    match (bs, cs) {
+        (Branches::End, Branches::End) => Ok(true),
+        (Branches::Item(b, bs), Branches::Item(c, cs)) => {
+            if !convert(alloc, env, Mode::Equal, &b.body, &c.body, left, deep, steps)? {
+                return Ok(false);
+            }
+            same_bodies(alloc, env, bs, cs, left, deep, steps)
+        }
+        (Branches::End, Branches::Item(..)) => Ok(false),
+        (Branches::Item(..), Branches::End) => Ok(false),
+    }
+}
+
+/// Whether the terms of two lists are convertible, pairwise.
+#[cycle(convert)]
+#[tactic(auto, using(mt_term::proofs::ComparisonRules::terms_rules))]
+fn same_terms<L: Ledger>(
+    alloc: Global,
+    env: &PlainEnv,
+    s: &Terms,
+    r: &Terms,
+    left: &mut u64,
+    deep: usize,
+    steps: &mut Steps<L>,
+) -> Result<bool, Stop>
+    ensures answer { Answers (λ b. b) (terms (environment_of env.now) no_store (trees_of s.now) (trees_of r.now) left.old) left.new result }
+    ensures cost { steps.new + left.new ≡ steps.old + left.old }
+{
+    let _left = *left;
+    let deep = deeper(deep)?;
+    match (s, r) {
+        (Terms::End, Terms::End) => Ok(true),
+        (Terms::Item(t, s), Terms::Item(u, r)) => {
+            if !convert(alloc, env, Mode::Equal, t, u, left, deep, steps)? {
+                return Ok(false);
+            }
+            same_terms(alloc, env, s, r, left, deep, steps)
+        }
+        (Terms::End, Terms::Item(..)) => Ok(false),
+        (Terms::Item(..), Terms::End) => Ok(false),
     }
 }

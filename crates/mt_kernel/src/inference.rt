@@ -1,35 +1,34 @@
 // The inference of types.
-ghost use Rattle.std.specs.Prelude.{◌≡◌, ◌+◌, [], IfOk};
+ghost use Rattle.std.specs.Prelude.{◌≡◌, ◌+◌, IfOk, drop};
 ghost use Rattle.mt_kernel.specs.Answers.{Answers};
 ghost use Rattle.mt_kernel.specs.Arguments.{tree_in};
 ghost use Rattle.mt_kernel.specs.Contexts.{hypotheses_of};
-ghost use Rattle.mt_term.specs.EnvironmentOf.{environment_of};
-ghost use Rattle.mt_kernel.specs.Forms.{held, held_in, product_in, sort_in};
-ghost use Rattle.mt_term.specs.Inference.{agreement, as_product, as_sort, constant_type, infer, product_of, sort_of};
+ghost use Rattle.mt_kernel.specs.Families.{family_held};
+ghost use Rattle.mt_kernel.specs.Fitting.{branch_fits, fits, match_type};
+ghost use Rattle.mt_kernel.specs.Forms.{held};
+ghost use Rattle.mt_term.specs.ConstructorOf.{seen_constructor};
 ghost use Rattle.mt_term.specs.EntryOf.{seen_declaration};
+ghost use Rattle.mt_term.specs.EnvironmentOf.{environment_of};
+ghost use Rattle.mt_term.specs.Inference.{branch_context, constant_type, constructor_type, elimination, inductive_type, infer, infer_arms, product_of, sort_of, type_head};
 ghost use Rattle.mt_term.specs.Stores.{no_store};
-ghost use Rattle.mt_term.specs.TreeOf.{tree_of};
-ghost use Rattle.mt_term.specs.Trees.{Prod};
+ghost use Rattle.mt_term.specs.TreeOf.{arms_of, tree_of, trees_of};
+ghost use Rattle.mt_term.specs.Trees.{Match, Prod};
 
+use crate::branches::{branch_goal, bullets, has_branches};
 use crate::charges::charge;
-use crate::comparison::convert;
-use crate::contexts::{Context, hypotheses, type_at};
+use crate::contexts::{Context, type_at};
+use crate::elimination::eliminated;
+use crate::expected::{Product, agree, as_product, as_sort};
+use crate::families::{Family, apply_all, family_numbered};
+use crate::matching::constructor_at;
 use crate::reduction::whd;
 use crate::sorts::{sort_above, sort_of_product};
 use mt_term::{
-    Entries, Entry, Mode, Name, OutOfMemory, PlainEnv, Refusal, Sort, Stop, Term, copy, deeper,
-    substitute,
+    Branch, Branches, Constructor, Entry, Mode, Name, Names, OutOfMemory, PlainEnv, Refusal, Sort,
+    Stop, Term, Terms, copy, deeper, substitute,
 };
 use mt_text::{Ledger, Steps};
 use std::alloc::Global;
-
-/// A product.
-#[derive(Drop)]
-pub struct Product {
-    name: Name,
-    domain: Box<Term>,
-    codomain: Box<Term>,
-}
 
 /// The type of a term, one charge for each term in it. Of calls one inside the other it makes at most `deep`.
 #[cycle(infer)]
@@ -48,6 +47,11 @@ pub fn infer<L: Ledger>(
 {
     let _left = *left;
     let deep = deeper(deep)?;
+    if let Term::Match(number, returns, c, branches) = t {
+        return infer_match(
+            alloc, env, context, *number, returns, c, branches, left, deep, steps,
+        );
+    }
     charge(left, steps)?;
     match t {
         Term::Var(i) => match type_at(alloc, context, *i)? {
@@ -90,7 +94,18 @@ pub fn infer<L: Ledger>(
             Some(ty) => Ok(ty),
             None => Err(Stop::Refused(Refusal::Unbound(Name::new(alloc)))),
         },
-        _ => Err(Stop::OutOfMemory),
+        Term::Ind(e) => match inductive_type(alloc, env.entries.get(*e))? {
+            Some(ty) => Ok(ty),
+            None => Err(Stop::Refused(Refusal::Unbound(Name::new(alloc)))),
+        },
+        Term::Con(e, k) => {
+            match constructor_type(alloc, constructor_at(&env.entries, *e, *k))? {
+                Some(ty) => Ok(ty),
+                None => Err(Stop::Refused(Refusal::Unbound(Name::new(alloc)))),
+            }
+        }
+        // A metavariable: there is none.
+        _ => Err(Stop::Refused(Refusal::Unbound(Name::new(alloc)))),
     }
 }
 
@@ -109,6 +124,7 @@ fn product_to(
     Ok(Term::Prod(name, domain, codomain))
 }
 
+/// The type of a constant.
 fn constant_type(alloc: Global, entry: Option<&Entry>) -> Result<Option<Term>, OutOfMemory>
     ensures { IfOk result (λ o. tree_in o ≡ constant_type (seen_declaration entry.entry)) }
 {
@@ -117,6 +133,32 @@ fn constant_type(alloc: Global, entry: Option<&Entry>) -> Result<Option<Term>, O
         Some(Entry::Axiom { ty, .. }) => Ok(Some(copy(alloc, ty)?)),
         Some(Entry::Definition { ty, .. }) => Ok(Some(copy(alloc, ty)?)),
         Some(Entry::Recursive { ty, .. }) => Ok(Some(copy(alloc, ty)?)),
+    }
+}
+
+/// The type of an inductive type.
+fn inductive_type(alloc: Global, entry: Option<&Entry>) -> Result<Option<Term>, OutOfMemory>
+    ensures { IfOk result (λ o. tree_in o ≡ inductive_type (seen_declaration entry.entry)) }
+{
+    match entry {
+        Some(Entry::Inductive { ty, .. }) => Ok(Some(copy(alloc, ty)?)),
+        None
+        | Some(Entry::Axiom { .. })
+        | Some(Entry::Definition { .. })
+        | Some(Entry::Recursive { .. }) => Ok(None),
+    }
+}
+
+/// The type of a constructor.
+fn constructor_type(
+    alloc: Global,
+    constructor: Option<&Constructor>,
+) -> Result<Option<Term>, OutOfMemory>
+    ensures { IfOk result (λ o. tree_in o ≡ constructor_type (seen_constructor constructor.entry)) }
+{
+    match constructor {
+        None => Ok(None),
+        Some(c) => Ok(Some(copy(alloc, &c.ty)?)),
     }
 }
 
@@ -161,83 +203,272 @@ fn product_of<L: Ledger>(
     as_product(alloc, env, ty, left, deep, steps)
 }
 
-#[tactic(auto, using(crate::proofs::Inferring::sort_rules))]
-fn as_sort<L: Ledger>(
+/// The weak head of a term's type.
+#[cycle(infer)]
+#[tactic(auto, using(mt_term::proofs::InferenceRules::type_head_rules))]
+fn type_head<L: Ledger>(
     alloc: Global,
     env: &PlainEnv,
-    t: Term,
+    context: &Context<'_>,
+    t: &Term,
+    left: &mut u64,
+    deep: usize,
+    steps: &mut Steps<L>,
+) -> Result<Term, Stop>
+    ensures answer { Answers tree_of (type_head (environment_of env.now) no_store (hypotheses_of context.now) (tree_of t.now) left.old) left.new result }
+    ensures cost { steps.new + left.new ≡ steps.old + left.old }
+{
+    let _left = *left;
+    let deep = deeper(deep)?;
+    let ty = infer(alloc, env, context, t, left, deep, steps)?;
+    whd(alloc, env, ty, left, deep, steps)
+}
+
+/// The type of a match, with its own charge.
+#[cycle(infer)]
+#[tactic(auto, using(crate::proofs::Matches::infer_match_rules))]
+fn infer_match<L: Ledger>(
+    alloc: Global,
+    env: &PlainEnv,
+    context: &Context<'_>,
+    number: usize,
+    returns: &Term,
+    c: &Term,
+    branches: &Branches,
+    left: &mut u64,
+    deep: usize,
+    steps: &mut Steps<L>,
+) -> Result<Term, Stop>
+    ensures answer { Answers tree_of (infer (environment_of env.now) no_store (hypotheses_of context.now) (Match number (tree_of returns.now) (tree_of c.now) (arms_of branches.now)) left.old) left.new result }
+    ensures cost { steps.new + left.new ≡ steps.old + left.old }
+{
+    let _left = *left;
+    let deep = deeper(deep)?;
+    charge(left, steps)?;
+    let head = type_head(alloc, env, context, c, left, deep, steps)?;
+    let Some(family) = family_numbered(alloc, &env.entries, number, &head, deep)? else {
+        return Err(Stop::Refused(Refusal::BadElimination));
+    };
+    match_type(
+        alloc, env, context, &family, returns, c, branches, left, deep, steps,
+    )
+}
+
+/// The type of a match on a term of an inductive type.
+#[cycle(infer)]
+#[tactic(auto, using(crate::proofs::Matches::match_type_rules))]
+fn match_type<L: Ledger>(
+    alloc: Global,
+    env: &PlainEnv,
+    context: &Context<'_>,
+    family: &Family<'_>,
+    returns: &Term,
+    c: &Term,
+    branches: &Branches,
+    left: &mut u64,
+    deep: usize,
+    steps: &mut Steps<L>,
+) -> Result<Term, Stop>
+    ensures answer { Answers tree_of (match_type (environment_of env.now) (hypotheses_of context.now) (family_held family.now) (tree_of returns.now) (tree_of c.now) (arms_of branches.now) left.old) left.new result }
+    ensures cost { steps.new + left.new ≡ steps.old + left.old }
+{
+    let _left = *left;
+    let deep = deeper(deep)?;
+    elimination(alloc, env, context, family, returns, left, deep, steps)?;
+    if !has_branches(&family.params, family.constructors, branches, deep)? {
+        return Err(Stop::Refused(Refusal::BadElimination));
+    }
+    infer_branches(
+        alloc, env, context, family, returns, 0, branches, left, deep, steps,
+    )?;
+    Ok(bullets(alloc, copy(alloc, returns)?, &family.indices, c, deep)?)
+}
+
+/// The sort that a return function answers in.
+#[cycle(infer)]
+#[tactic(auto, using(crate::proofs::Matches::elimination_rules))]
+fn elimination<L: Ledger>(
+    alloc: Global,
+    env: &PlainEnv,
+    context: &Context<'_>,
+    family: &Family<'_>,
+    returns: &Term,
     left: &mut u64,
     deep: usize,
     steps: &mut Steps<L>,
 ) -> Result<Sort, Stop>
-    ensures answer { Answers (λ s. s) (as_sort (environment_of env.now) no_store (tree_of t) left.old) left.new result }
+    ensures answer { Answers (λ s. s) (elimination (environment_of env.now) no_store (hypotheses_of context.now) (family_held family.now) (tree_of returns.now) left.old) left.new result }
     ensures cost { steps.new + left.new ≡ steps.old + left.old }
 {
-    let head = whd(alloc, env, t, left, deep, steps)?;
-    sort_in(head).ok_or(Stop::Refused(Refusal::NotASort))
+    let _left = *left;
+    let deep = deeper(deep)?;
+    let ty = infer(alloc, env, context, returns, left, deep, steps)?;
+    let on_params = apply_all(alloc, Term::Ind(family.number), &family.params, deep)?;
+    eliminated(
+        alloc,
+        env,
+        context,
+        family.large,
+        &family.arity,
+        &on_params,
+        ty,
+        left,
+        deep,
+        steps,
+    )
 }
 
-fn sort_in(t: Term) -> Option<Sort>
-    ensures { result ≡ sort_in (tree_of t) }
-{
-    match t {
-        Term::Sort(s) => Some(s),
-        _ => None,
-    }
-}
-
-#[tactic(auto, using(crate::proofs::Inferring::product_rules))]
-fn as_product<L: Ledger>(
-    alloc: Global,
-    env: &PlainEnv,
-    t: Term,
-    left: &mut u64,
-    deep: usize,
-    steps: &mut Steps<L>,
-) -> Result<Product, Stop>
-    ensures answer { Answers held (as_product (environment_of env.now) no_store (tree_of t) left.old) left.new result }
-    ensures cost { steps.new + left.new ≡ steps.old + left.old }
-{
-    let head = whd(alloc, env, t, left, deep, steps)?;
-    product_in(head).ok_or(Stop::Refused(Refusal::NotAFunction))
-}
-
-fn product_in(t: Term) -> Option<Product>
-    ensures { held_in result ≡ product_in (tree_of t) }
-{
-    match t {
-        Term::Prod(name, domain, codomain) => Some(Product {
-            name,
-            domain,
-            codomain,
-        }),
-        _ => None,
-    }
-}
-
-/// Checks that an inferred type agrees with the expected one.
-#[tactic(auto, using(crate::proofs::Inferring::agree_rules))]
-pub fn agree<L: Ledger>(
+/// Checks the branches for the constructors from number `k` on.
+#[cycle(infer)]
+#[tactic(auto, using(crate::proofs::Branching::arms_rules))]
+fn infer_branches<L: Ledger>(
     alloc: Global,
     env: &PlainEnv,
     context: &Context<'_>,
-    mode: Mode,
-    inferred: Term,
-    expected: &Term,
+    family: &Family<'_>,
+    returns: &Term,
+    k: usize,
+    branches: &Branches,
     left: &mut u64,
     deep: usize,
     steps: &mut Steps<L>,
 ) -> Result<(), Stop>
-    ensures answer { Answers (λ a. a) (agreement (environment_of env.now) no_store (hypotheses_of context.now) mode (tree_of inferred) (tree_of expected.now) left.old) left.new result }
+    ensures answer { Answers (λ a. a) (infer_arms (environment_of env.now) no_store (hypotheses_of context.now) (family_held family.now) (tree_of returns.now) k (drop k family.now.constructors.now) (arms_of branches.now) left.old) left.new result }
     ensures cost { steps.new + left.new ≡ steps.old + left.old }
 {
-    if convert(alloc, env, mode, &inferred, expected, left, deep, steps)? {
+    let _left = *left;
+    let deep = deeper(deep)?;
+    let Branches::Item(branch, rest) = branches else {
         return Ok(());
+    };
+    let Some(constructor) = family.constructors.get(k) else {
+        return Ok(());
+    };
+    infer_branch(
+        alloc,
+        env,
+        context,
+        family.number,
+        &family.params,
+        returns,
+        k,
+        &constructor.ty,
+        branch,
+        left,
+        deep,
+        steps,
+    )?;
+    let next = k.checked_add(1).ok_or(OutOfMemory)?;
+    infer_branches(
+        alloc, env, context, family, returns, next, rest, left, deep, steps,
+    )
+}
+
+/// Checks the branch for constructor `k`, which has the type `ty`.
+#[cycle(infer)]
+#[tactic(auto, using(crate::proofs::Branching::one_branch_rules))]
+fn infer_branch<L: Ledger>(
+    alloc: Global,
+    env: &PlainEnv,
+    context: &Context<'_>,
+    number: usize,
+    params: &Terms,
+    returns: &Term,
+    k: usize,
+    ty: &Term,
+    branch: &Branch,
+    left: &mut u64,
+    deep: usize,
+    steps: &mut Steps<L>,
+) -> Result<(), Stop>
+    ensures answer { Answers (λ a. a) (branch_fits (environment_of env.now) (hypotheses_of context.now) number (trees_of params.now) (tree_of returns.now) k (tree_of ty.now) branch.now.names (tree_of branch.now.body) left.old) left.new result }
+    ensures cost { steps.new + left.new ≡ steps.old + left.old }
+{
+    let _left = *left;
+    let deep = deeper(deep)?;
+    let names = &branch.names;
+    let Some(goal) = branch_goal(alloc, number, params, k, ty, returns, names, deep)? else {
+        return Err(Stop::Refused(Refusal::BadElimination));
+    };
+    check_branch(
+        alloc,
+        env,
+        context,
+        &goal.own,
+        names,
+        0,
+        &branch.body,
+        &goal.ty,
+        left,
+        deep,
+        steps,
+    )
+}
+
+/// Checks a branch's body against its type, in the context of the constructor's arguments by the names from `at` on.
+#[cycle(infer)]
+#[tactic(auto, using(crate::proofs::Branching::branch_rules))]
+fn check_branch<L: Ledger>(
+    alloc: Global,
+    env: &PlainEnv,
+    context: &Context<'_>,
+    own: &Term,
+    names: &Names,
+    at: usize,
+    body: &Term,
+    ty: &Term,
+    left: &mut u64,
+    deep: usize,
+    steps: &mut Steps<L>,
+) -> Result<(), Stop>
+    ensures answer { Answers (λ a. a) (fits (environment_of env.now) (branch_context (hypotheses_of context.now) (tree_of own.now) (drop at names.now)) (tree_of body.now) (tree_of ty.now) left.old) left.new result }
+    ensures cost { steps.new + left.new ≡ steps.old + left.old }
+{
+    let _left = *left;
+    let deep = deeper(deep)?;
+    match names.get(at) {
+        None => check_fit(alloc, env, context, body, ty, left, deep, steps),
+        Some(name) => match own {
+            Term::Prod(_, domain, codomain) => {
+                let next = at.checked_add(1).ok_or(OutOfMemory)?;
+                let inner = Context::More(name, &*domain, &*context);
+                check_branch(
+                    alloc, env, &inner, codomain, names, next, body, ty, left, deep, steps,
+                )
+            }
+            _ => check_fit(alloc, env, context, body, ty, left, deep, steps),
+        },
     }
-    Err(Stop::Refused(Refusal::Mismatch {
-        context: hypotheses(alloc, context)?,
+}
+
+/// Checks that the type of a term is at most a type.
+#[cycle(infer)]
+#[tactic(auto, using(crate::proofs::Branching::fits_rules))]
+fn check_fit<L: Ledger>(
+    alloc: Global,
+    env: &PlainEnv,
+    context: &Context<'_>,
+    t: &Term,
+    ty: &Term,
+    left: &mut u64,
+    deep: usize,
+    steps: &mut Steps<L>,
+) -> Result<(), Stop>
+    ensures answer { Answers (λ a. a) (fits (environment_of env.now) (hypotheses_of context.now) (tree_of t.now) (tree_of ty.now) left.old) left.new result }
+    ensures cost { steps.new + left.new ≡ steps.old + left.old }
+{
+    let _left = *left;
+    let deep = deeper(deep)?;
+    let inferred = infer(alloc, env, context, t, left, deep, steps)?;
+    agree(
+        alloc,
+        env,
+        context,
+        Mode::AtMost,
         inferred,
-        expected: copy(alloc, expected)?,
-        known: Entries::new(alloc),
-    }))
+        ty,
+        left,
+        deep,
+        steps,
+    )
 }

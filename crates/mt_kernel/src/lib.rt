@@ -5,15 +5,19 @@ ghost use Rattle.std.specs.Prelude.{◌≡◌, ◌+◌, ◌≤◌, [], IfOk, OnE
 ghost use Rattle.mt_kernel.specs.Answers.{Answers, IsYes, answer_of, charge_of, verdict_of};
 ghost use Rattle.mt_kernel.specs.Derived.{IsTermDerived, IsTypeDerived};
 ghost use Rattle.mt_term.specs.EnvironmentOf.{environment_of};
-ghost use Rattle.mt_kernel.specs.Plain.{IsPlain, IsPlainEnv};
 ghost use Rattle.mt_term.specs.KernelCheck.{check, check_type};
 ghost use Rattle.mt_term.specs.TreeOf.{tree_of};
 
 mod arguments;
+mod branches;
 mod charges;
 mod comparison;
 mod contexts;
+mod elimination;
+mod expected;
+mod families;
 mod inference;
+mod matching;
 mod order;
 mod reduction;
 mod sorts;
@@ -21,7 +25,8 @@ mod sorts;
 mod tests;
 
 use crate::contexts::Context;
-use crate::inference::{agree, infer, sort_of};
+use crate::expected::agree;
+use crate::inference::{infer, sort_of};
 use mt_term::{MOST_DEEP, Mode, OutOfMemory, PlainEnv, Refusal, Sort, Stop, Term};
 use mt_text::{Ledger, Steps};
 use std::alloc::Global;
@@ -51,9 +56,6 @@ pub fn check<L: Ledger>(
     allowance: u64,
     steps: &mut Steps<L>,
 ) -> Result<Verdict, OutOfMemory>
-    requires env { IsPlainEnv (environment_of env.now) }
-    requires term { IsPlain (tree_of term.now) }
-    requires ty { IsPlain (tree_of ty.now) }
     ensures verdict { let outcome = check (environment_of env.now) (tree_of term.now) (tree_of ty.now) allowance in
         IfOk result (λ v. answer_of v ≡ verdict_of allowance outcome) }
     ensures typed { IfOk result (λ v. IsYes v → IsTermDerived (environment_of env.now) (tree_of term.now) (tree_of ty.now)) }
@@ -86,8 +88,6 @@ pub fn check_type<L: Ledger>(
     allowance: u64,
     steps: &mut Steps<L>,
 ) -> Result<Verdict, OutOfMemory>
-    requires env { IsPlainEnv (environment_of env.now) }
-    requires ty { IsPlain (tree_of ty.now) }
     ensures verdict { let outcome = check_type (environment_of env.now) (tree_of ty.now) allowance in
         IfOk result (λ v. answer_of v ≡ verdict_of allowance outcome) }
     ensures typed { IfOk result (λ v. IsYes v → IsTypeDerived (environment_of env.now) (tree_of ty.now)) }

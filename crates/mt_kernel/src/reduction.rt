@@ -4,16 +4,19 @@ ghost use Rattle.mt_kernel.specs.Answers.{Answers};
 ghost use Rattle.mt_kernel.specs.Arguments.{args_of, tree_in};
 ghost use Rattle.mt_term.specs.EnvironmentOf.{environment_of};
 ghost use Rattle.mt_term.specs.Stores.{no_store};
+ghost use Rattle.mt_term.specs.Trees.{Const};
 ghost use Rattle.mt_term.specs.TreeOf.{tree_of};
 ghost use Rattle.mt_term.specs.WeakHead.{look, whd};
 
-use crate::arguments::{Args, apply, beta};
+use crate::arguments::{Args, apply, beta, item_at, on_args};
 use crate::charges::charge;
+use crate::matching::{matched, recursive_step};
 use mt_term::{Entry, PlainEnv, Stop, Term, copy, deeper};
 use mt_text::{Ledger, Steps};
 use std::alloc::Global;
 
 /// The weak head. Of calls one inside the other it makes at most `deep`.
+#[cycle(whd)]
 #[tactic(auto, using(mt_term::proofs::WeakHeadRules::whd_rules))]
 pub fn whd<L: Ledger>(
     alloc: Global,
@@ -36,6 +39,7 @@ pub fn whd<L: Ledger>(
 }
 
 /// What the term on the arguments becomes by a step, where there is one; the step's own charge is not paid.
+#[cycle(whd)]
 #[tactic(auto, using(crate::proofs::Unfolding::unfolding_rules))]
 fn look<L: Ledger>(
     alloc: Global,
@@ -54,15 +58,55 @@ fn look<L: Ledger>(
     match t {
         Term::App(f, a) => look(alloc, env, &*f, &Args::More(&*a, &*args), left, deep, steps),
         Term::Lam(_, _, body) => Ok(beta(alloc, body, args)?),
-        Term::Const(n) => match env.entries.get(*n) {
-            Some(Entry::Definition { body, .. }) => {
-                let head = copy(alloc, body)?;
-                Ok(Some(apply(alloc, head, args)?))
-            }
-            Some(Entry::Recursive { .. }) => Err(Stop::OutOfMemory),
-            None | Some(Entry::Axiom { .. }) | Some(Entry::Inductive { .. }) => Ok(None),
-        },
-        Term::Match(..) => Err(Stop::OutOfMemory),
+        Term::Const(n) => unfolded(alloc, env, *n, args, left, deep, steps),
+        Term::Match(e, returns, c, branches) => {
+            let head = whd(alloc, env, copy(alloc, c)?, left, deep, steps)?;
+            let next = matched(alloc, &env.entries, *e, returns, branches, &head, deep)?;
+            Ok(on_args(alloc, next, args)?)
+        }
         _ => Ok(None),
+    }
+}
+
+/// The same of a constant.
+#[cycle(whd)]
+#[tactic(auto, using(crate::proofs::Unfolding::unfolding_rules))]
+fn unfolded<L: Ledger>(
+    alloc: Global,
+    env: &PlainEnv,
+    n: usize,
+    args: &Args<'_>,
+    left: &mut u64,
+    deep: usize,
+    steps: &mut Steps<L>,
+) -> Result<Option<Term>, Stop>
+    ensures answer { Answers tree_in (look (environment_of env.now) no_store (Const n) (args_of args.now) left.old) left.new result }
+    ensures cost { steps.new + left.new ≡ steps.old + left.old }
+{
+    let deep = deeper(deep)?;
+    let _left = *left;
+    match env.entries.get(n) {
+        Some(Entry::Definition { body, .. }) => {
+            let head = copy(alloc, body)?;
+            Ok(Some(apply(alloc, head, args)?))
+        }
+        Some(
+            Entry::Recursive {
+                co,
+                place,
+                body,
+                ..
+            },
+        ) => {
+            if *co {
+                return Ok(None);
+            }
+            let Some(opened) = item_at(args, *place) else {
+                return Ok(None);
+            };
+            let head = whd(alloc, env, copy(alloc, opened)?, left, deep, steps)?;
+            Ok(recursive_step(alloc, &env.entries, *place, body, args, &head, deep)?)
+        }
+        None | Some(Entry::Axiom { .. }) | Some(Entry::Inductive { .. }) => Ok(None),
     }
 }

@@ -1,15 +1,13 @@
 -- The kernel on the entries of a run.
 use Rattle.std.proofs.Common.{◌≡◌, ℕ, List, [], refl, ap, ◌∙◌}
-use Rattle.mt_term.specs.Trees.{Bytes, Tree, Const, Sort}
-use Rattle.mt_term.specs.Declarations.{Declaration, Axiom, Definition}
+use Rattle.mt_term.specs.Trees.{Bytes, Tree}
+use Rattle.mt_term.specs.Declarations.{Axiom, Definition}
 use Rattle.mt_term.specs.Charges.{Outcome, Done, Refused, Spent}
 use Rattle.mt_term.specs.KernelCheck.{check, check_type}
 use Rattle.mt_term.specs.declared.environment.PlainEnv.{PlainEnv}
-use Rattle.mt_term.specs.declared.universes.Sort.TheVariants.{Prop, Typ}
 use Rattle.mt_kernel.specs.Answers.{verdict_of, charge_of}
 use Rattle.mt_term.specs.EnvironmentOf.{environment_of}
-use Rattle.mt_kernel.specs.Plain.{IsPlain, IsPlainEntry, IsPlainEnv as IsChecked}
-use Rattle.mt_session.specs.Known.{IsPlainEnv, IsKnown, IsKnownEntry, alone}
+use Rattle.mt_session.specs.Known.{alone}
 use Rattle.mt_session.specs.Runs.{kernel, passed}
 
 -- the verdict on an outcome and its charges are the same without its answer
@@ -27,20 +25,6 @@ charge_passed a Spent = refl
 environment_alone : (env : PlainEnv) → env.names ≡ [] → env.below ≡ [] → environment_of env ≡ alone env.entries
 environment_alone env n b = λ i. record { entries = env.entries; names = n i; below = b i }
 
--- what the kernel asks of terms and of environments
-pub term_is_plain : (es : List Declaration) (t : Tree) → IsKnown es t → IsPlain t
-term_is_plain es (Const n) h = tt
-term_is_plain es (Sort s) h = tt
-term_is_plain es _ h = absurd h
-
-known_plain_entry : (es : List Declaration) (d : Declaration) → IsKnownEntry es d → IsPlainEntry d
-known_plain_entry es (Axiom x T) h = term_is_plain es T h
-known_plain_entry es (Definition x T b) h = (term_is_plain es T h.0, term_is_plain es b h.1)
-known_plain_entry es _ h = absurd h
-
-pub environment_is_plain : (env : PlainEnv) → IsPlainEnv env.entries → IsChecked (environment_of env)
-environment_is_plain env p = record { entries = λ n d e. known_plain_entry env.entries d (p n d e) }
-
 module _ (env : PlainEnv) (x : Bytes) (T : Tree) (n : env.names ≡ []) (b : env.below ≡ []) where
   pub axiom_verdict : verdict_of 100000 (check_type (environment_of env) T 100000) ≡ verdict_of 100000 (kernel env.entries (Axiom x T))
   axiom_verdict = ap (λ E. verdict_of 100000 (check_type E T 100000)) (environment_alone env n b) ∙ verdict_passed 100000 (check_type (alone env.entries) T 100000)
@@ -54,4 +38,4 @@ module _ (env : PlainEnv) (x : Bytes) (T : Tree) (n : env.names ≡ []) (b : env
   pub definition_charge : (t : Tree) → charge_of 100000 (check (environment_of env) t T 100000) ≡ charge_of 100000 (kernel env.entries (Definition x T t))
   definition_charge t = ap (λ E. charge_of 100000 (check E t T 100000)) (environment_alone env n b)
 
-pub ruleset kernel_rules = (term_is_plain, environment_is_plain, axiom_verdict, axiom_charge, definition_verdict, definition_charge)
+pub ruleset kernel_rules = (axiom_verdict, axiom_charge, definition_verdict, definition_charge)

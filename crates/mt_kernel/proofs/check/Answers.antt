@@ -14,4 +14,4 @@ overflow_sub-result g c =
 pub returns-in-Ok-clause-typed : goal.returns-in-Ok-clause-typed
 returns-in-Ok-clause-typed g c =
     let answer = rw c.in-Ok.is at c.check_term.ensures.answer in
-    λ yes. term_derived (environment_of c.args.env.now) (tree_of c.args.term.now) (tree_of c.args.ty.now) c.args.allowance _ _ c.requires.term c.requires.ty answer
+    λ yes. term_derived (environment_of c.args.env.now) (tree_of c.args.term.now) (tree_of c.args.ty.now) c.args.allowance _ _ answer

@@ -8,3 +8,12 @@ decreases-same_heads g l = l.deep
 
 abbrev pub decreases-same_spine : goal.decreases-same_spine
 decreases-same_spine g l = l.deep
+
+abbrev pub decreases-same_matches : goal.decreases-same_matches
+decreases-same_matches g l = l.deep
+
+abbrev pub decreases-same_bodies : goal.decreases-same_bodies
+decreases-same_bodies g l = l.deep
+
+abbrev pub decreases-same_terms : goal.decreases-same_terms
+decreases-same_terms g l = l.deep

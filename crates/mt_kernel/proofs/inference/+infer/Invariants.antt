@@ -8,3 +8,27 @@ decreases-sort_of g l = l.deep
 
 abbrev pub decreases-product_of : goal.decreases-product_of
 decreases-product_of g l = l.deep
+
+abbrev pub decreases-type_head : goal.decreases-type_head
+decreases-type_head g l = l.deep
+
+abbrev pub decreases-infer_match : goal.decreases-infer_match
+decreases-infer_match g l = l.deep
+
+abbrev pub decreases-elimination : goal.decreases-elimination
+decreases-elimination g l = l.deep
+
+abbrev pub decreases-infer_branches : goal.decreases-infer_branches
+decreases-infer_branches g l = l.deep
+
+abbrev pub decreases-check_branch : goal.decreases-check_branch
+decreases-check_branch g l = l.deep
+
+abbrev pub decreases-check_fit : goal.decreases-check_fit
+decreases-check_fit g l = l.deep
+
+abbrev pub decreases-match_type : goal.decreases-match_type
+decreases-match_type g l = l.deep
+
+abbrev pub decreases-infer_branch : goal.decreases-infer_branch
+decreases-infer_branch g l = l.deep
