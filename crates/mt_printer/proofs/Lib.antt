@@ -4,3 +4,4 @@ pub mod Avoiding
 pub mod Telescoping
 pub mod Instancing
 pub mod Listing
+pub mod InstanceLaw

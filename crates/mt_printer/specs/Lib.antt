@@ -1,4 +1,5 @@
 pub mod Columns
+pub mod Laws
 pub mod Chosen
 pub mod TermText
 pub mod Telescopes

@@ -9,6 +9,7 @@ mod columns;
 mod entries;
 mod goals;
 mod instances;
+mod laws;
 mod notes;
 mod printing;
 mod scopes;
@@ -21,6 +22,7 @@ mod walks;
 
 pub use columns::column;
 pub use goals::put_goals;
+pub use laws::printed_instances;
 pub use notes::put_env;
 pub use printing::{PrintStop, print_env, print_goals, print_term};
 pub use telescopes::put_term;
