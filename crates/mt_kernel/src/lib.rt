@@ -16,6 +16,8 @@ mod contexts;
 mod elimination;
 mod expected;
 mod families;
+#[cfg(test)]
+mod inductive_tests;
 mod inference;
 mod matching;
 mod order;

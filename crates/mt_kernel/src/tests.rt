@@ -1,8 +1,5 @@
 // The kernel's calls with ample memory, and the costs of worked terms.
-ghost use Rattle.std.specs.Prelude.{◌≡◌, ◌<◌, [], ◌∷◌, IfOk, length};
-ghost use Rattle.mt_term.specs.EnvironmentOf.{environment_of};
-ghost use Rattle.mt_kernel.specs.Plain.{IsPlain, IsPlainEnv};
-ghost use Rattle.mt_term.specs.TreeOf.{tree_of};
+ghost use Rattle.std.specs.Prelude.{◌≡◌, ◌<◌};
 
 use crate::{Verdict, check, check_type};
 use mt_term::{
@@ -13,39 +10,27 @@ use std::alloc::{AllocFailed, Global};
 use std::sync::ledger::Blank;
 use std::test::Fail;
 
-fn typ(alloc: Global, base: u32) -> Term
-    ensures { IsPlain (tree_of result) }
-{
+pub(crate) fn typ(alloc: Global, base: u32) -> Term {
     Term::Sort(Sort::Typ(UnivExpr {
         base,
         atoms: Atoms::new(alloc),
     }))
 }
 
-fn prod(alloc: Global, domain: Term, codomain: Term) -> Result<Term, OutOfMemory>
-    requires domain { IsPlain (tree_of domain) }
-    requires codomain { IsPlain (tree_of codomain) }
-    ensures { IfOk result (λ t. IsPlain (tree_of t)) }
-{
+pub(crate) fn prod(alloc: Global, domain: Term, codomain: Term) -> Result<Term, OutOfMemory> {
     let domain = Box::new(alloc, domain)?;
     let codomain = Box::new(alloc, codomain)?;
     Ok(Term::Prod(Name::new(alloc), domain, codomain))
 }
 
-fn lam(alloc: Global, domain: Term, body: Term) -> Result<Term, OutOfMemory>
-    requires domain { IsPlain (tree_of domain) }
-    requires body { IsPlain (tree_of body) }
-    ensures { IfOk result (λ t. IsPlain (tree_of t)) }
-{
+pub(crate) fn lam(alloc: Global, domain: Term, body: Term) -> Result<Term, OutOfMemory> {
     let domain = Box::new(alloc, domain)?;
     let body = Box::new(alloc, body)?;
     Ok(Term::Lam(Name::new(alloc), domain, body))
 }
 
 // No entry.
-fn empty(alloc: Global) -> PlainEnv
-    ensures { IsPlainEnv (environment_of result) }
-{
+fn empty(alloc: Global) -> PlainEnv {
     PlainEnv {
         entries: Entries::new(alloc),
         names: Names::new(alloc),
@@ -54,17 +39,13 @@ fn empty(alloc: Global) -> PlainEnv
 }
 
 // `∀A:Prop.A→A`
-fn every(alloc: Global) -> Result<Term, OutOfMemory>
-    ensures { IfOk result (λ t. IsPlain (tree_of t)) }
-{
+fn every(alloc: Global) -> Result<Term, OutOfMemory> {
     let arrow = prod(alloc, Term::Var(0), Term::Var(1))?;
     prod(alloc, Term::Sort(Sort::Prop), arrow)
 }
 
 // `λA:Prop.λx:A.x`
-fn identity(alloc: Global) -> Result<Term, OutOfMemory>
-    ensures { IfOk result (λ t. IsPlain (tree_of t)) }
-{
+fn identity(alloc: Global) -> Result<Term, OutOfMemory> {
     let inner = lam(alloc, Term::Var(0), Term::Var(0))?;
     lam(alloc, Term::Sort(Sort::Prop), inner)
 }
@@ -89,9 +70,6 @@ fn checked<L: Ledger>(
     requires name { blank.name ≡ L.name }
     requires parts { blank.parts ≡ L.parts }
     requires some { 0 < L.parts }
-    requires env { IsPlainEnv (environment_of env.now) }
-    requires term { IsPlain (tree_of term.now) }
-    requires ty { IsPlain (tree_of ty.now) }
 {
     let mut steps = Steps::<L>::new(blank);
     Ok(told(&check(alloc, env, term, ty, allowance, &mut steps)?))
@@ -106,37 +84,27 @@ fn type_checked<L: Ledger>(
     requires name { blank.name ≡ L.name }
     requires parts { blank.parts ≡ L.parts }
     requires some { 0 < L.parts }
-    requires ty { IsPlain (tree_of ty.now) }
 {
     let env = empty(alloc);
     let mut steps = Steps::<L>::new(blank);
     Ok(told(&check_type(alloc, &env, ty, allowance, &mut steps)?))
 }
 
-fn says(alloc: Global, term: &Term, ty: &Term, allowance: u64) -> Result<(u8, u64), OutOfMemory>
-    requires term { IsPlain (tree_of term.now) }
-    requires ty { IsPlain (tree_of ty.now) }
-{
+fn says(alloc: Global, term: &Term, ty: &Term, allowance: u64) -> Result<(u8, u64), OutOfMemory> {
     says_in(alloc, &empty(alloc), term, ty, allowance)
 }
 
-fn says_in(
+pub(crate) fn says_in(
     alloc: Global,
     env: &PlainEnv,
     term: &Term,
     ty: &Term,
     allowance: u64,
-) -> Result<(u8, u64), OutOfMemory>
-    requires env { IsPlainEnv (environment_of env.now) }
-    requires term { IsPlain (tree_of term.now) }
-    requires ty { IsPlain (tree_of ty.now) }
-{
+) -> Result<(u8, u64), OutOfMemory> {
     checked::<PlainLedger>(alloc, env, term, ty, allowance, Blank::new(1))
 }
 
-fn says_of_type(alloc: Global, ty: &Term, allowance: u64) -> Result<(u8, u64), OutOfMemory>
-    requires ty { IsPlain (tree_of ty.now) }
-{
+fn says_of_type(alloc: Global, ty: &Term, allowance: u64) -> Result<(u8, u64), OutOfMemory> {
     type_checked::<PlainLedger>(alloc, ty, allowance, Blank::new(1))
 }
 
@@ -149,18 +117,14 @@ fn a_universe_is_not_in_itself(rt: HostRuntime) -> Result<(), Fail> {
 }
 
 // `Type[x+k]`, where x has this number
-fn named(alloc: Global, name: usize, offset: u32) -> Result<Term, OutOfMemory>
-    ensures { IfOk result (λ t. IsPlain (tree_of t)) }
-{
+fn named(alloc: Global, name: usize, offset: u32) -> Result<Term, OutOfMemory> {
     let mut atoms = Atoms::new(alloc);
     atoms.push(Atom { name, offset })?;
     Ok(Term::Sort(Sort::Typ(UnivExpr { base: 0, atoms })))
 }
 
 // Three universes, each below the next.
-fn chain(alloc: Global) -> Result<PlainEnv, OutOfMemory>
-    ensures { IfOk result (λ env. IsPlainEnv (environment_of env)) }
-{
+fn chain(alloc: Global) -> Result<PlainEnv, OutOfMemory> {
     let mut below = Pairs::new(alloc);
     below.push((1, 2))?;
     below.push((0, 1))?;
