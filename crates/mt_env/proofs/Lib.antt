@@ -1,3 +1,4 @@
 pub mod NameLaws
 pub mod NamingLaws
 pub mod EnteringLaws
+pub mod PlainLaws

@@ -4,6 +4,7 @@
 mod adding;
 mod environments;
 mod holding;
+mod plain;
 mod refs;
 mod stops;
 mod table;
