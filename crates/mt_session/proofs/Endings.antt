@@ -8,7 +8,8 @@ use Rattle.std.specs.Io.KnownBytes.{Appends}
 use Rattle.std.proofs.KnownBytes.{Appends-nil}
 use Rattle.mt_text.specs.Causes.{AppendsPrefix}
 use Rattle.mt_session.specs.declared.serving.Status.TheVariants.{Done, Refused, BadFrame, TooLong}
-use Rattle.mt_session.specs.Runs.{run, run_text, cost, is_clean, is_too_long, is_script, output_of, script_status, status_of, charges_of, most}
+use Rattle.mt_session.specs.Runs.{run, cost, is_clean}
+use Rattle.mt_session.specs.Output.{run_text, is_too_long, is_script, output_of, script_status, status_of, charges_of, most}
 
 pub script_short : (b : List ℕ) → length b ≤ most → is_script b ≡ is_utf8 b
 script_short b le = let e : nat_lt most (length b) ≡ false = grind (arith, nat_tests) in ap (λ t. if t then false else is_utf8 b) e
@@ -34,7 +35,7 @@ pub bad_output : (b : List ℕ) (a : Option (List ℕ)) → is_script b ≡ fals
 bad_output b a e = subst (Appends a a) (sym (ap (λ t. if t then run_text b (run b) else []) e)) (Appends-nil a)
 
 -- a script
-pub good_status : (b : List ℕ) (clean : Bool) → length b ≤ most → is_utf8 b ≡ true → clean ≡ is_clean (run b).fault → (if clean then Done else Refused) ≡ status_of b
+pub good_status : (b : List ℕ) (clean : Bool) → length b ≤ most → is_utf8 b ≡ true → clean ≡ is_clean (run b) → (if clean then Done else Refused) ≡ status_of b
 good_status b clean le e c =
     ap (λ t. if t then Done else Refused) c ∙ sym (short_status b le ∙ ap (λ t. if t then script_status b else BadFrame) e)
 

@@ -1,115 +1,185 @@
 -- Steps of a run.
-use Rattle.std.proofs.Common.{◌≡◌, ◌<◌, ◌≤◌, ℕ, zero, suc, ◌+◌, ◌-◌, List, [], ◌∷◌, ◌++◌, length, Option, Some, None, refl, ap, ◌∙◌, sym, subst, arith, length-append}
-use Rattle.std.specs.Prelude.{slice_get, Result, Ok, Err, IfOk, OnOk}
+use Rattle.std.proofs.Common.{◌≡◌, ◌<◌, ◌≤◌, ℕ, zero, suc, ◌+◌, ◌-◌, Bool, true, false, List, [], ◌∷◌, length, Option, Some, None, refl, ap, ◌∙◌, sym, subst, arith}
+use Rattle.std.specs.Prelude.{Result, Ok, Err, IfOk, OnOk, OnErr}
 use Rattle.std.specs.Str.{IsUtf8, IsCharBoundary}
 use Rattle.std.proofs.lemmas.Str.{IsCharBoundary-start}
-use Rattle.mt_term.specs.Trees.{Tree, Const, Sort}
-use Rattle.mt_term.specs.Declarations.{Declaration, Axiom, Definition}
-use Rattle.mt_session.specs.Known.{IsPlainEnv, IsKnown, IsKnownEntry}
+use Rattle.mt_term.specs.Declarations.{Reason}
 use Rattle.mt_term.specs.Charges.{Outcome, Done, Refused, Spent}
+use Rattle.mt_term.specs.ScriptState.{State}
 use Rattle.mt_term.specs.declared.refusals.Fault.{Fault}
-use Rattle.mt_kernel.specs.Answers.{verdict_of}
-use Rattle.mt_session.specs.declared.running.State.{State}
+use Rattle.mt_term_parser.specs.Readings.{Reading, Got, Stops}
+use Rattle.mt_unit_parser.specs.WrittenUnits.{WrittenUnit}
+use Rattle.mt_unit_parser.specs.Blocks.{unit}
+use Rattle.mt_resolver.specs.Resolution.{Resolution, Found, Faults}
+use Rattle.mt_session.specs.declared.sessions.Session.{Session}
 use Rattle.mt_session.specs.declared.running.Step.{Step}
 use Rattle.mt_session.specs.declared.running.Step.TheVariants.{On, Over}
-use Rattle.mt_session.specs.Units.{Reading, Got, Item, AUnit, unit, name_of, names_of}
-use Rattle.mt_session.specs.Runs.{run, run_from, ended, refusal_of}
-use Rattle.mt_session.specs.Steps.{IsReady, Accepts, JudgesEntry, GoesOn, IsOver, run_on, refusal_by, blame_in}
-use Rattle.mt_session.proofs.Reading.{unit_known}
+use Rattle.mt_session.specs.Tasks.{Task, Order, Enter, Begin, Close, Rest, Finish, judged, changed}
+use Rattle.mt_session.specs.Plans.{asked, takes_charge}
+use Rattle.mt_session.specs.Moves.{Blame, Move, Goes, Fails, move_by, move_for, after_charge, move, charges_in}
+use Rattle.mt_session.specs.Ready.{SoundState}
+use Rattle.mt_session.specs.Runs.{Run, run, run_from, cost, cost_from, by_reading, by_move, ended, empty_state, allowance}
+use Rattle.mt_session.specs.Sessions.{AreTables, IsReady, state_in}
+use Rattle.mt_session.specs.Steps.{Accepts, Refuses, MovesAs, GoesOn, IsOver, StepIs, CostIs, run_on, cost_on, blame_of, blame_in}
+use Rattle.mt_session.proofs.Sounding.{empty_sound, move_sound}
 
-pub refusal_verdict : (a : ℕ) (o : Outcome (Unit {0})) → refusal_by (verdict_of a o) ≡ refusal_of o
-refusal_verdict a (Done x left) = refl
-refusal_verdict a (Refused r left) = refl
-refusal_verdict a Spent = refl
+-- ---- where a unit leads
 
--- what is known stays known
-known_more : (es : List Declaration) (d : Declaration) (t : Tree) → IsKnown es t → IsKnown (es ++ d ∷ []) t
-known_more es d (Const n) h = omega (arith, length-append es (d ∷ []))
-known_more es d (Sort s) h = h
-known_more es d _ h = absurd h
+-- it ends where the state does, and is one more
+record Leads (s t : State) (end : ℕ) : Type 0 where
+  pub place : t.place ≡ end
+  pub count : t.units ≡ s.units + 1
 
-known_entry_more : (es : List Declaration) (d x : Declaration) → IsKnownEntry es x → IsKnownEntry (es ++ d ∷ []) x
-known_entry_more es d (Axiom x T) h = known_more es d T h
-known_entry_more es d (Definition x T b) h = (known_more es d T h.0, known_more es d b h.1)
-known_entry_more es d _ h = absurd h
+leads_changed : (s : State) (end : ℕ) (k : Task) → Leads s (changed s end k) end
+leads_changed s end (Order a b) = record { place = refl; count = refl }
+leads_changed s end (Enter d) = record { place = refl; count = refl }
+leads_changed s end (Begin x T) = record { place = refl; count = refl }
+leads_changed s end (Close n T t) = record { place = refl; count = refl }
+leads_changed s end Rest = record { place = refl; count = refl }
+leads_changed s end (Finish d) = record { place = refl; count = refl }
 
--- an entry of a list with one more is the new one or was there
-held_more : (P : Declaration → Type 0) (es : List Declaration) (d : Declaration) → P d → ((n : ℕ) (x : Declaration) → slice_get es n ≡ Some x → P x) → (n : ℕ) (x : Declaration) → slice_get (es ++ d ∷ []) n ≡ Some x → P x
-held_more P [] d p all zero x is = let same : d ≡ x = cc in subst P same p
-held_more P [] d p all (suc n) x is = let no : ⊥ = cc in absurd no
-held_more P (y ∷ es) d p all zero x is = all zero x is
-held_more P (y ∷ es) d p all (suc n) x is = held_more P es d p (λ m z h. all (suc m) z h) n x is
+module _ (s : State) (start end : ℕ) (t : State) (left : ℕ) where
+  leads_by : (k : Task) (o : Outcome (Unit {0})) → move_by s start end k o ≡ Goes t left → Leads s t end
+  leads_by k (Done z rest) g = let same : changed s end k ≡ t = cc in subst (λ u. Leads s u end) same (leads_changed s end k)
+  leads_by k (Refused r rest) g = let no : ⊥ = cc in absurd no
+  leads_by k Spent g = let no : ⊥ = cc in absurd no
 
-pub plain_more : (es : List Declaration) (d : Declaration) → IsPlainEnv es → IsKnownEntry es d → IsPlainEnv (es ++ d ∷ [])
-plain_more es d all h =
-    held_more (IsKnownEntry (es ++ d ∷ [])) es d (known_entry_more es d d h) (λ n x is. known_entry_more es d x (all n x is))
+  leads_for : (r : Resolution Task) (n : ℕ) → move_for s start end r n ≡ Goes t left → Leads s t end
+  leads_for (Found k) n g = leads_by k (judged s.env k n) g
+  leads_for (Faults r at) n g = let no : ⊥ = cc in absurd no
 
-pub plain_nil : IsPlainEnv []
-plain_nil n x is = let no : ⊥ = cc in absurd no
+  leads_after : (b : Bool) (r : Resolution Task) (n : ℕ) → after_charge b start (move_for s start end r) n ≡ Goes t left → Leads s t end
+  leads_after false r n g = leads_for r n g
+  leads_after true r zero g = let no : ⊥ = cc in absurd no
+  leads_after true r (suc n) g = leads_for r n g
 
-pub names_more : (es : List Declaration) (d : Declaration) → names_of (es ++ d ∷ []) ≡ names_of es ++ name_of d ∷ []
-names_more [] d = refl
-names_more (x ∷ es) d = ap (λ l. name_of x ∷ l) (names_more es d)
+leads : (s : State) (u : WrittenUnit) (n : ℕ) (t : State) (left : ℕ) → move s u n ≡ Goes t left → Leads s t u.end
+leads s u n t left g = leads_after s u.start u.end t left (takes_charge s.proof u.kind) (asked s u.start u.kind) n g
 
--- equal states run alike
-same_run : (text : List ℕ) (n : ℕ) (es fs : List Declaration) (u v p q : ℕ) → es ≡ fs → u ≡ v → p ≡ q → run_from text n es u p ≡ run_from text n fs v q
-same_run text n es fs u v p q e f g =
-    ap (λ es. run_from text n es u p) e ∙ ap (λ u. run_from text n fs u p) f ∙ ap (λ p. run_from text n fs v p) g
+-- ---- one unit
 
--- a unit over the names of the environment
-pub unit_over : (text : List ℕ) (s : State) (r : Reading Item) → IsReady text s → unit s.known text s.place ≡ r → unit (names_of s.env.entries) text s.place ≡ r
-unit_over text s r ready e = ap (λ xs. unit xs text s.place) (sym ready.known) ∙ e
+module _ (text : List ℕ) (old : Session) where
+  -- by what is read
+  run_read : (n : ℕ) (r : Reading (Option WrittenUnit)) → unit text old.place ≡ r → run_on text (suc n) old ≡ by_reading r (λ b. ended (state_in old) (Some b)) (ended (state_in old) None) (λ u. by_move (move (state_in old) u allowance) (λ b. ended (state_in old) (Some b)) (λ t. run_from text n t))
+  run_read n r e = ap (λ r. by_reading r (λ b. ended (state_in old) (Some b)) (ended (state_in old) None) (λ u. by_move (move (state_in old) u allowance) (λ b. ended (state_in old) (Some b)) (λ t. run_from text n t))) e
 
--- a state after an accepted unit
-pub ready_more : (text : List ℕ) (old new : State) (stop : ℕ) (d : Declaration) → IsReady text old → IsKnownEntry old.env.entries d → old.place < stop → IsCharBoundary text stop → Accepts old new stop d → IsReady text new
-ready_more text old new stop d ready known past at a = record {
-  env = subst IsPlainEnv (sym a.entries) (plain_more old.env.entries d ready.env known);
-  names = a.names ∙ ready.names;
-  below = a.below ∙ ready.below;
-  known = a.known ∙ ap (λ xs. xs ++ name_of d ∷ []) ready.known ∙ sym (names_more old.env.entries d) ∙ ap names_of (sym a.entries);
-  count = omega (arith, a.units, a.place, ready.count, past);
-  place = subst (IsCharBoundary text) (sym a.place) at;
-}
+  cost_read : (n : ℕ) (r : Reading (Option WrittenUnit)) → unit text old.place ≡ r → cost_on text (suc n) old ≡ by_reading r (λ b. 0) 0 (λ u. charges_in allowance (move (state_in old) u allowance) + by_move (move (state_in old) u allowance) (λ b. 0) (λ t. cost_from text n t))
+  cost_read n r e = ap (λ r. by_reading r (λ b. 0) 0 (λ u. charges_in allowance (move (state_in old) u allowance) + by_move (move (state_in old) u allowance) (λ b. 0) (λ t. cost_from text n t))) e
 
--- the entry of a unit that is read
-pub unit_entry : (text : List ℕ) (s : State) (start stop m : ℕ) (d : Declaration) → IsReady text s → unit s.known text s.place ≡ Got (AUnit start stop d) m → IsKnownEntry s.env.entries d
-unit_entry text s start stop m d ready e =
-    unit_known s.env.entries text s.place start stop m d (unit_over text s (Got (AUnit start stop d) m) ready e)
+  -- no unit is there
+  pub over_end : (m : ℕ) → unit text old.place ≡ Got None m → IsOver text old old None
+  over_end m e = record { same = λ n. run_read n (Got None m) e }
 
--- a state after a unit that is judged
-pub ready_judged : {E : Type 0} (text : List ℕ) (old new : State) (start stop m : ℕ) (d : Declaration) (r : Result Step E) → IsReady text old → unit old.known text old.place ≡ Got (AUnit start stop d) m → old.place < stop → IsCharBoundary text stop → IfOk r (λ s. JudgesEntry old new start stop d s) → OnOk r (IsReady text new)
-ready_judged text old new start stop m d (Ok On) ready e past at a = ready_more text old new stop d ready (unit_entry text old start stop m d ready e) past at a
-ready_judged text old new start stop m d (Ok (Over f)) ready e past at a = subst (IsReady text) (sym a.same) ready
-ready_judged text old new start stop m d (Err e) ready _ past at a = tt
+  pub over_fault : (f : Fault) → unit text old.place ≡ Stops (blame_of f).0 (blame_of f).1 → IsOver text old old (Some f)
+  over_fault f e = record { same = λ n. run_read n (Stops (blame_of f).0 (blame_of f).1) e }
 
--- the run from the empty state goes on
-pub goes_on : (text : List ℕ) (old new : State) → IsReady text old → GoesOn text old new → run_on text (suc (length text) - old.units) old ≡ run text → run_on text (suc (length text) - new.units) new ≡ run text
+  pub cost_end : (m before : ℕ) → unit text old.place ≡ Got None m → (n : ℕ) → before + cost_on text (suc n) old ≡ before
+  cost_end m before e n = let none = cost_read n (Got None m) e in omega (arith, none)
+
+  pub cost_fault : (f : Fault) (before : ℕ) → unit text old.place ≡ Stops (blame_of f).0 (blame_of f).1 → (n : ℕ) → before + cost_on text (suc n) old ≡ before
+  cost_fault f before e n = let none = cost_read n (Stops (blame_of f).0 (blame_of f).1) e in omega (arith, none)
+
+  module _ (u : WrittenUnit) (m : ℕ) (e : unit text old.place ≡ Got (Some u) m) where
+    goes : (new : Session) → old.place < u.end → Accepts (move (state_in old) u allowance) new → GoesOn text old new
+    goes new past a =
+        let to = leads (state_in old) u allowance (state_in new) a.left a.is in record {
+          same = λ n. run_read n (Got (Some u) m) e ∙ ap (λ v. by_move v (λ b. ended (state_in old) (Some b)) (λ t. run_from text n t)) a.is;
+          place = omega (arith, past, to.place);
+          count = to.count;
+        }
+
+    over : (f : Fault) → Refuses (move (state_in old) u allowance) f → IsOver text old old (Some f)
+    over f a = record { same = λ n. run_read n (Got (Some u) m) e ∙ ap (λ v. by_move v (λ b. ended (state_in old) (Some b)) (λ t. run_from text n t)) a.is }
+
+    pub step_of_unit : {E : Type 0} (new : Session) (r : Result Step E) → old.place < u.end → IfOk r (λ s. MovesAs (move (state_in old) u allowance) old new s) → IfOk r (λ s. StepIs text old new s)
+    step_of_unit new (Ok On) past a = goes new past a.0
+    step_of_unit new (Ok (Over None)) past a = absurd a
+    step_of_unit new (Ok (Over (Some f))) past a = subst (λ w. IsOver text old w (Some f)) (sym a.1) (over f a.0)
+    step_of_unit new (Err x) past a = tt
+
+    ready : (new : Session) → IsReady text old → old.place < u.end → IsCharBoundary text u.end → Accepts (move (state_in old) u allowance) new → AreTables new → IsReady text new
+    ready new h past at a tables =
+        let to = leads (state_in old) u allowance (state_in new) a.left a.is in record {
+          tables = tables;
+          sound = move_sound (state_in old) u allowance (state_in new) a.left h.sound a.is;
+          count = omega (arith, to.place, to.count, h.count, past);
+          place = subst (IsCharBoundary text) (sym to.place) at;
+        }
+
+    pub ready_of_unit : {E : Type 0} (new : Session) (r : Result Step E) → IsReady text old → old.place < u.end → IsCharBoundary text u.end → IfOk r (λ s. MovesAs (move (state_in old) u allowance) old new s) → OnOk r (IsReady text new)
+    ready_of_unit new (Ok On) h past at a = ready new h past at a.0 a.1
+    ready_of_unit new (Ok (Over None)) h past at a = absurd a
+    ready_of_unit new (Ok (Over (Some f))) h past at a = subst (IsReady text) (sym a.1) h
+    ready_of_unit new (Err x) h past at a = tt
+
+    cost_moved : (n : ℕ) (v : Move) → move (state_in old) u allowance ≡ v → cost_on text (suc n) old ≡ charges_in allowance (move (state_in old) u allowance) + by_move v (λ b. 0) (λ t. cost_from text n t)
+    cost_moved n v g = cost_read n (Got (Some u) m) e ∙ ap (λ v. charges_in allowance (move (state_in old) u allowance) + by_move v (λ b. 0) (λ t. cost_from text n t)) g
+
+    pub cost_of_unit : {E : Type 0} (new : Session) (before now : ℕ) (r : Result Step E) → IfOk r (λ s. MovesAs (move (state_in old) u allowance) old new s) → OnOk r (now ≡ before + charges_in allowance (move (state_in old) u allowance)) → IfOk r (λ s. CostIs text old new before now s)
+    cost_of_unit new before now (Ok On) a c = λ n. let whole = cost_moved n (Goes (state_in new) a.0.left) a.0.is in omega (arith, whole, c)
+    cost_of_unit new before now (Ok (Over None)) a c = absurd a
+    cost_of_unit new before now (Ok (Over (Some f))) a c = λ n. let whole = cost_moved n (Fails (blame_of f) a.0.left) a.0.is in omega (arith, whole, c)
+    cost_of_unit new before now (Err x) a c = tt
+
+    pub most_of_unit : {E : Type 0} (before now : ℕ) (r : Result Step E) → OnErr r (now ≤ before + charges_in allowance (move (state_in old) u allowance)) → OnErr r ((n : ℕ) → now ≤ before + cost_on text (suc n) old)
+    most_of_unit before now (Ok s) c = tt
+    most_of_unit before now (Err x) c = λ n. let whole = cost_moved n (move (state_in old) u allowance) refl in omega (arith, whole, c)
+
+-- ---- the whole run
+
+pub goes_on : (text : List ℕ) (old new : Session) → IsReady text old → GoesOn text old new → run_on text (suc (length text) - old.units) old ≡ run text → run_on text (suc (length text) - new.units) new ≡ run text
 goes_on text old new ready went e =
     let n = length text - old.units in
     let before : suc (length text) - old.units ≡ suc n = omega (arith, ready.count, ready.place.0) in
     let after : suc (length text) - new.units ≡ n = omega (arith, went.count) in
     ap (λ k. run_on text k new) after ∙ sym (went.same n) ∙ ap (λ k. run_on text k old) (sym before) ∙ e
 
--- the run from the empty state is over
-pub is_over : (text : List ℕ) (old new : State) (f : Option Fault) → IsReady text old → IsOver text old new f → run_on text (suc (length text) - old.units) old ≡ run text → run text ≡ ended new.env.entries new.units new.place (blame_in f)
+pub is_over : (text : List ℕ) (old new : Session) (f : Option Fault) → IsReady text old → IsOver text old new f → run_on text (suc (length text) - old.units) old ≡ run text → run text ≡ ended (state_in new) (blame_in f)
 is_over text old new f ready over e =
     let n = length text - old.units in
     let before : suc (length text) - old.units ≡ suc n = omega (arith, ready.count, ready.place.0) in
     sym e ∙ ap (λ k. run_on text k old) before ∙ over.same n
 
--- the empty state
-pub ready_first : (text : List ℕ) (s : State) → IsUtf8 text → s.env.entries ≡ [] → s.env.names ≡ [] → s.env.below ≡ [] → s.known ≡ [] → s.units ≡ 0 → s.place ≡ 0 → IsReady text s
-ready_first text s u none names below known units place = record {
-  env = subst IsPlainEnv (sym none) plain_nil;
-  names = names;
-  below = below;
-  known = known ∙ ap names_of (sym none);
-  count = omega arith;
-  place = subst (IsCharBoundary text) (sym place) (IsCharBoundary-start text u);
-}
+pub ready_first : (text : List ℕ) (s : Session) → IsUtf8 text → state_in s ≡ empty_state → AreTables s → IsReady text s
+ready_first text s u first tables =
+    let units : s.units ≡ 0 = ap (λ (t : State). t.units) first in
+    let place : s.place ≡ 0 = ap (λ (t : State). t.place) first in record {
+      tables = tables;
+      sound = subst SoundState (sym first) empty_sound;
+      count = omega (arith, units);
+      place = subst (IsCharBoundary text) (sym place) (IsCharBoundary-start text u);
+    }
 
-pub run_first : (text : List ℕ) (s : State) → s.env.entries ≡ [] → s.units ≡ 0 → s.place ≡ 0 → run_on text (suc (length text) - s.units) s ≡ run text
+pub run_first : (text : List ℕ) (s : Session) → state_in s ≡ empty_state → run_on text (suc (length text) - s.units) s ≡ run text
 unfolding run
-run_first text s none units place =
-    let n : suc (length text) - s.units ≡ suc (length text) = omega arith in
-    ap (λ k. run_from text k s.env.entries s.units s.place) n ∙ same_run text (suc (length text)) s.env.entries [] s.units 0 s.place 0 none units place
+run_first text s first =
+    let units : s.units ≡ 0 = ap (λ (t : State). t.units) first in
+    let n : suc (length text) - s.units ≡ suc (length text) = omega (arith, units) in
+    ap (λ k. run_from text k (state_in s)) n ∙ ap (run_from text (suc (length text))) first
+
+pub cost_first : (text : List ℕ) (s : Session) (n : ℕ) → state_in s ≡ empty_state → n + cost_on text (suc (length text) - s.units) s ≡ n + cost text
+unfolding cost
+cost_first text s n first =
+    let units : s.units ≡ 0 = ap (λ (t : State). t.units) first in
+    let k : suc (length text) - s.units ≡ suc (length text) = omega (arith, units) in
+    ap (λ c. n + c) (ap (λ k. cost_from text k (state_in s)) k ∙ ap (cost_from text (suc (length text))) first)
+
+pub cost_goes_on : (text : List ℕ) (old new : Session) (before now all : ℕ) → IsReady text old → GoesOn text old new → ((n : ℕ) → before + cost_on text (suc n) old ≡ now + cost_on text n new) → before + cost_on text (suc (length text) - old.units) old ≡ all → now + cost_on text (suc (length text) - new.units) new ≡ all
+cost_goes_on text old new before now all ready went c e =
+    let n = length text - old.units in
+    let one : suc (length text) - old.units ≡ suc n = omega (arith, ready.count, ready.place.0) in
+    let two : suc (length text) - new.units ≡ n = omega (arith, went.count) in
+    ap (λ k. now + cost_on text k new) two ∙ sym (c n) ∙ ap (λ k. before + cost_on text k old) (sym one) ∙ e
+
+pub cost_is_over : (text : List ℕ) (old : Session) (before now all : ℕ) → IsReady text old → ((n : ℕ) → before + cost_on text (suc n) old ≡ now) → before + cost_on text (suc (length text) - old.units) old ≡ all → now ≡ all
+cost_is_over text old before now all ready c e =
+    let n = length text - old.units in
+    let one : suc (length text) - old.units ≡ suc n = omega (arith, ready.count, ready.place.0) in
+    sym (c n) ∙ ap (λ k. before + cost_on text k old) (sym one) ∙ e
+
+pub cost_is_cut : (text : List ℕ) (old : Session) (before now all : ℕ) → IsReady text old → ((n : ℕ) → now ≤ before + cost_on text (suc n) old) → before + cost_on text (suc (length text) - old.units) old ≡ all → now ≤ all
+cost_is_cut text old before now all ready c e =
+    let n = length text - old.units in
+    let one : suc (length text) - old.units ≡ suc n = omega (arith, ready.count, ready.place.0) in
+    let same = ap (λ k. before + cost_on text k old) (sym one) ∙ e in
+    omega (arith, c n, same)

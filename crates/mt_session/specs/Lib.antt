@@ -1,8 +1,9 @@
-pub mod Tokens
-pub mod Units
-pub mod Columns
-pub mod Output
-pub mod Known
+pub mod Tasks
+pub mod Plans
+pub mod Moves
+pub mod Ready
 pub mod Runs
+pub mod Sessions
 pub mod Steps
+pub mod Output
 pub mod Served

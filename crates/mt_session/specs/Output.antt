@@ -1,11 +1,17 @@
 -- The text of replies and states.
-use Rattle.std.specs.Prelude.{ℕ, List, [], ◌∷◌, ◌++◌, length, codes, Option, Some, None, slice_get}
+use Rattle.std.specs.Prelude.{ℕ, Bool, true, false, if◌then◌else◌, List, [], ◌∷◌, ◌++◌, length, codes, Option, Some, None, nat_lt}
+use Rattle.std.specs.Str.{is_utf8}
 use Rattle.std.specs.Fmt.{decimal}
-use Rattle.mt_term.specs.Trees.{Tree, Const, Sort}
-use Rattle.mt_term.specs.Declarations.{Declaration, Axiom, Definition, Reason, Lex, Syntax, Incomplete, TooDeep, Unbound, Taken, Mismatch, NotAFunction, NotASort, NoExpected, Cycle, NotPositive, NotGuarded, BadElimination, BadHint, BadCoercion, OpenMetas, NoGoal, NoBranch, NoSuchPosition, NotHere, KernelRefused, Spent, number_of}
-use Rattle.mt_term.specs.declared.universes.Sort.{Sort as AnySort}
-use Rattle.mt_term.specs.declared.universes.Sort.TheVariants.{Prop, Typ}
-use Rattle.mt_session.specs.Units.{name_of}
+use Rattle.mt_term.specs.Trees.{Bytes}
+use Rattle.mt_term.specs.Declarations.{Reason, Lex, Syntax, Incomplete, TooDeep, Unbound, Taken, Mismatch, NotAFunction, NotASort, NoExpected, Cycle, NotPositive, NotGuarded, BadElimination, BadHint, BadCoercion, OpenMetas, NoGoal, NoBranch, NoSuchPosition, NotHere, KernelRefused, Spent, number_of}
+use Rattle.mt_term.specs.ScriptState.{State}
+use Rattle.mt_printer.specs.Columns.{column_of}
+use Rattle.mt_printer.specs.EnvText.{env_text}
+use Rattle.mt_printer.specs.GoalsText.{goals_text}
+use Rattle.mt_session.specs.declared.serving.Status.{Status}
+use Rattle.mt_session.specs.declared.serving.Status.TheVariants.{Done as RunDone, Refused as RunRefused, BadFrame, TooLong}
+use Rattle.mt_session.specs.Moves.{Blame}
+use Rattle.mt_session.specs.Runs.{Run, run, cost, is_clean}
 
 abbrev pub line_end : List ℕ
 line_end = 10 ∷ []
@@ -51,8 +57,13 @@ fault_text r = codes " " ++ decimal (number_of r) ++ codes " " ++ reason_name r
 abbrev pub spot_text : ℕ → ℕ → List ℕ
 spot_text at column = codes " " ++ decimal at ++ codes " " ++ decimal column ++ line_end
 
--- the line that says the kernel's reason
+-- the line that says the name, or the kernel's reason
+abbrev pub name_line : Bytes → List ℕ
+name_line x = codes "  name " ++ x ++ line_end
+
 abbrev pub more_of : Reason → List ℕ
+more_of (Unbound x) = name_line x
+more_of (Taken x) = name_line x
 more_of (KernelRefused n) = codes "  reason " ++ decimal n ++ line_end
 more_of _ = []
 
@@ -61,60 +72,42 @@ abbrev pub no_text : ℕ → ℕ → Reason → ℕ → ℕ → List ℕ
 no_text units place r at column =
     placed (codes "no ") units place ++ fault_text r ++ spot_text at column ++ more_of r
 
--- the name of an entry, where it is there
-abbrev pub name_at : Option Declaration → List ℕ
-name_at None = []
-name_at (Some e) = name_of e
+abbrev pub end_text : List ℕ
+end_text = codes "end" ++ line_end
 
-abbrev pub sort_text : AnySort → List ℕ
-sort_text Prop = codes "Prop"
-sort_text (Typ u) = codes "Type[" ++ decimal u.base ++ codes "]"
+-- a state: the number of accepted units and the place, the environment, the proof
+abbrev pub state_text : State → List ℕ
+state_text s = placed (codes "state ") s.units s.place ++ line_end ++ env_text s ++ goals_text s ++ end_text
 
--- a constant or a sort, over the entries
-abbrev pub term_text : List Declaration → Tree → List ℕ
-term_text es (Const n) = name_at (slice_get es n)
-term_text es (Sort s) = sort_text s
-term_text es _ = []
+abbrev pub reply : Bytes → State → Option Blame → Bytes
+reply text s None = ok_text s.units s.place
+reply text s (Some f) = no_text s.units s.place f.0 f.1 (column_of text f.1)
 
--- a name and its type
-abbrev pub typed_text : List Declaration → List ℕ → Tree → List ℕ
-typed_text es x T = x ++ codes " : " ++ term_text es T
+-- the last reply, and the state
+abbrev pub run_text : Bytes → Run → Bytes
+run_text text r = reply text r.state r.fault ++ state_text r.state
 
-abbrev pub becomes_text : List ℕ
-becomes_text = 32 ∷ 226 ∷ 137 ∷ 157 ∷ 32 ∷ []
+-- the most bytes of a script
+abbrev pub most : ℕ
+most = 1048576
 
-abbrev pub unit_end : List ℕ
-unit_end = 46 ∷ 10 ∷ []
+-- whether there are more bytes than a script may have
+abbrev pub is_too_long : Bytes → Bool
+is_too_long bytes = nat_lt most (length bytes)
 
--- an entry, as a script would have it
-abbrev pub entry_text : List Declaration → Declaration → List ℕ
-entry_text es (Axiom x T) = codes "axiom " ++ typed_text es x T ++ unit_end
-entry_text es (Definition x T b) = codes "definition " ++ typed_text es x T ++ becomes_text ++ term_text es b ++ unit_end
-entry_text es _ = []
+-- whether the bytes are a script
+abbrev pub is_script : Bytes → Bool
+is_script bytes = if is_too_long bytes then false else is_utf8 bytes
 
--- a line for each of some entries
-abbrev pub entries_text : List Declaration → List Declaration → List ℕ
-entries_text es [] = []
-entries_text es (e ∷ rest) = entry_text es e ++ entries_text es rest
+-- what is written for an input, the status, and the charges
+abbrev pub output_of : Bytes → Bytes
+output_of bytes = if is_script bytes then run_text bytes (run bytes) else []
 
-abbrev pub held_text : List Declaration → Option Declaration → List ℕ
-held_text es None = []
-held_text es (Some e) = entry_text es e
+abbrev pub script_status : Bytes → Status
+script_status bytes = if is_clean (run bytes) then RunDone else RunRefused
 
--- the line of entry n
-abbrev pub entry_at_text : List Declaration → ℕ → List ℕ
-entry_at_text es n = held_text es (slice_get es n)
+abbrev pub status_of : Bytes → Status
+status_of bytes = if is_too_long bytes then TooLong else (if is_utf8 bytes then script_status bytes else BadFrame)
 
--- no proof is open
-abbrev pub proof_text : List ℕ
-proof_text = codes "proof none" ++ (10 ∷ codes "end" ++ line_end)
-
-abbrev pub env_word : List ℕ
-env_word = 10 ∷ codes "env "
-
--- the place of a state, and its number of entries
-abbrev pub head_text : ℕ → ℕ → ℕ → List ℕ
-head_text count units place = placed (codes "state ") units place ++ env_word ++ decimal count ++ line_end
-
-abbrev pub state_text : List Declaration → ℕ → ℕ → List ℕ
-state_text es units place = head_text (length es) units place ++ entries_text es es ++ proof_text
+abbrev pub charges_of : Bytes → ℕ
+charges_of bytes = if is_script bytes then cost bytes else 0

@@ -1,93 +1,100 @@
 -- Steps of a run, as the code takes them.
-use Rattle.std.specs.Prelude.{◌≡◌, ◌≤◌, ◌<◌, ℕ, suc, ◌+◌, [], ◌∷◌, ◌++◌, Option, Some, None}
+use Rattle.std.specs.Prelude.{◌≡◌, ◌≤◌, ◌<◌, ℕ, suc, ◌+◌, List, [], ◌∷◌, length, Option, Some, None, is_some, true}
 use Rattle.std.specs.Str.{IsCharBoundary}
 use Rattle.mt_term.specs.Trees.{Bytes}
-use Rattle.mt_term.specs.Declarations.{Declaration, Reason, KernelRefused, number_of}
+use Rattle.mt_term.specs.Declarations.{Declaration, Axiom, Definition, Reason, KernelRefused, number_of}
 use Rattle.mt_term.specs.Declarations.{Spent as AllowanceSpent}
-use Rattle.mt_session.specs.Known.{IsPlainEnv}
 use Rattle.mt_term.specs.ReasonOf.{reason_of}
+use Rattle.mt_term.specs.Charges.{Outcome, Done, Refused, Spent}
 use Rattle.mt_term.specs.declared.refusals.Refusal.{Refusal}
 use Rattle.mt_term.specs.declared.refusals.Fault.{Fault}
-use Rattle.mt_kernel.specs.Answers.{Answer, Yes, No, Spent}
-use Rattle.mt_session.specs.declared.running.State.{State}
+use Rattle.mt_kernel.specs.Answers.{Answer, Yes, No, Spent as SpentAnswer}
+use Rattle.mt_kernel.specs.Plain.{IsPlain, IsPlainEntry}
+use Rattle.mt_session.specs.declared.sessions.OpenProof.{OpenProof}
+use Rattle.mt_session.specs.declared.sessions.Session.{Session}
 use Rattle.mt_session.specs.declared.running.Step.{Step}
 use Rattle.mt_session.specs.declared.running.Step.TheVariants.{On, Over}
-use Rattle.mt_session.specs.Units.{name_of, names_of}
-use Rattle.mt_session.specs.Runs.{Run, Blame, run_from, cost_from, ended, kernel, refusal_of}
+use Rattle.mt_session.specs.Tasks.{Task, Order, Enter, Begin, Close, Rest, Finish}
+use Rattle.mt_session.specs.Moves.{Blame, Move, Goes, Fails}
+use Rattle.mt_session.specs.Runs.{Run, run_from, cost_from, ended}
+use Rattle.mt_session.specs.Sessions.{AreTables, state_in}
 
--- what refuses a unit by the kernel's answer, if anything does
+-- what refuses a unit by the kernel's outcome, if anything does
+abbrev pub refusal_of : Outcome (Unit {0}) → Option Reason
+refusal_of (Done a left) = None
+refusal_of (Refused r left) = Some (KernelRefused (number_of r))
+refusal_of Spent = Some AllowanceSpent
+
+-- the same by the kernel's answer
 abbrev pub refusal_by : Answer → Option Reason
 refusal_by (Yes cost) = None
 refusal_by (No reason) = Some (KernelRefused (number_of reason))
-refusal_by Spent = Some AllowanceSpent
+refusal_by SpentAnswer = Some AllowanceSpent
 
 abbrev pub reason_in : Option Refusal → Option Reason
 reason_in None = None
 reason_in (Some r) = Some (reason_of r)
 
+abbrev pub blame_of : Fault → Blame
+blame_of f = (reason_of f.refusal, f.at)
+
 abbrev pub blame_in : Option Fault → Option Blame
 blame_in None = None
-blame_in (Some f) = Some (reason_of f.refusal, f.at)
+blame_in (Some f) = Some (blame_of f)
 
--- a fault stands where a character begins, or at the text's end
-abbrev pub IsPlacedFault : Bytes → Option Fault → Type 0
-IsPlacedFault text None = Unit {0}
-IsPlacedFault text (Some f) = IsCharBoundary text f.at
+-- the terms of a task are of the forms that the kernel takes so far
+abbrev pub IsPlainTask : Task → Type 0
+IsPlainTask (Enter d) = IsPlainEntry d
+IsPlainTask (Begin x T) = IsPlain T
+IsPlainTask (Close n T t) = IsPlain T × IsPlain t
+IsPlainTask (Finish d) = IsPlainEntry d
+IsPlainTask _ = Unit {0}
 
--- a state from which units can be taken
-pub record IsReady (text : Bytes) (s : State) : Type 0 where
-  pub env : IsPlainEnv s.env.entries
-  pub names : s.env.names ≡ []
-  pub below : s.env.below ≡ []
-  pub known : s.known ≡ names_of s.env.entries
-  pub count : s.units ≤ s.place
-  pub place : IsCharBoundary text s.place
+-- a task stands beside a proof: outside one, or as the end of a goal or of the proof
+abbrev pub Befits : Task → Option OpenProof → Type 0
+Befits (Order a b) p = p ≡ None
+Befits (Enter d) p = p ≡ None
+Befits (Begin x T) p = p ≡ None
+Befits (Close n T t) p = is_some p ≡ true
+Befits Rest p = Unit {0}
+Befits (Finish d) p = is_some p ≡ true
 
--- an entry was accepted, whose unit ends at a place
-pub record Accepts (old new : State) (stop : ℕ) (d : Declaration) : Type 0 where
-  pub passed : refusal_of (kernel old.env.entries d) ≡ None
-  pub entries : new.env.entries ≡ old.env.entries ++ d ∷ []
-  pub names : new.env.names ≡ old.env.names
-  pub below : new.env.below ≡ old.env.below
-  pub known : new.known ≡ old.known ++ name_of d ∷ []
-  pub units : new.units ≡ old.units + 1
-  pub place : new.place ≡ stop
+-- a unit was accepted, or refused
+pub record Accepts (m : Move) (new : Session) : Type 0 where
+  pub left : ℕ
+  pub is : m ≡ Goes (state_in new) left
 
--- an entry was refused, whose unit starts at a place, and the state stays
-pub record Refuses (old new : State) (start : ℕ) (d : Declaration) (f : Option Fault) : Type 0 where
-  pub reason : Reason
-  pub refused : refusal_of (kernel old.env.entries d) ≡ Some reason
-  pub fault : blame_in f ≡ Some (reason, start)
-  pub same : new ≡ old
+pub record Refuses (m : Move) (f : Fault) : Type 0 where
+  pub left : ℕ
+  pub is : m ≡ Fails (blame_of f) left
 
-abbrev pub JudgesEntry : State → State → ℕ → ℕ → Declaration → Step → Type 0
-JudgesEntry old new start stop d On = Accepts old new stop d
-JudgesEntry old new start stop d (Over f) = Refuses old new start d f
+abbrev pub MovesAs : Move → Session → Session → Step → Type 0
+MovesAs m old new On = Accepts m new × AreTables new
+MovesAs m old new (Over None) = ⊥
+MovesAs m old new (Over (Some f)) = Refuses m f × (new ≡ old)
 
 -- at most n more units from a state
-abbrev pub run_on : Bytes → ℕ → State → Run
-run_on text n s = run_from text n s.env.entries s.units s.place
+abbrev pub run_on : Bytes → ℕ → Session → Run
+run_on text n s = run_from text n (state_in s)
+
+abbrev pub cost_on : Bytes → ℕ → Session → ℕ
+cost_on text n s = cost_from text n (state_in s)
 
 -- a unit was accepted
-pub record GoesOn (text : Bytes) (old new : State) : Type 0 where
+pub record GoesOn (text : Bytes) (old new : Session) : Type 0 where
   pub same : (n : ℕ) → run_on text (suc n) old ≡ run_on text n new
   pub place : old.place < new.place
   pub count : new.units ≡ old.units + 1
 
 -- a unit was refused, or there is none
-pub record IsOver (text : Bytes) (old new : State) (f : Option Fault) : Type 0 where
-  pub same : (n : ℕ) → run_on text (suc n) old ≡ ended new.env.entries new.units new.place (blame_in f)
-  pub placed : IsPlacedFault text f
+pub record IsOver (text : Bytes) (old new : Session) (f : Option Fault) : Type 0 where
+  pub same : (n : ℕ) → run_on text (suc n) old ≡ ended (state_in new) (blame_in f)
 
-abbrev pub StepIs : Bytes → State → State → Step → Type 0
+abbrev pub StepIs : Bytes → Session → Session → Step → Type 0
 StepIs text old new On = GoesOn text old new
 StepIs text old new (Over f) = IsOver text old new f
 
--- what at most n more units cost from a state
-abbrev pub cost_on : Bytes → ℕ → State → ℕ
-cost_on text n s = cost_from text n s.env.entries s.place
-
 -- the count of steps before and after a unit
-abbrev pub CostIs : Bytes → State → State → ℕ → ℕ → Step → Type 0
+abbrev pub CostIs : Bytes → Session → Session → ℕ → ℕ → Step → Type 0
 CostIs text old new before now On = (n : ℕ) → before + cost_on text (suc n) old ≡ now + cost_on text n new
 CostIs text old new before now (Over f) = (n : ℕ) → before + cost_on text (suc n) old ≡ now

@@ -1,13 +1,15 @@
 //! The top call: a script from bytes to bytes.
 #![tactic(auto)]
 
-mod columns;
-mod lookup;
-mod parsing;
-mod printing;
+mod applying;
+mod asking;
+mod judging;
+mod replying;
+mod reporting;
 mod running;
 mod serving;
-mod tokens;
+mod sessions;
+mod tasks;
 
 pub use serving::{Status, serve};
 

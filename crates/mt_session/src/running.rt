@@ -1,39 +1,30 @@
 // A run of a script.
-ghost use Rattle.std.specs.Prelude.{◌≡◌, ◌<◌, ◌≤◌, ◌++◌, ◌+◌, ℕ, suc, None, [], length, IfOk, OnOk, OnErr};
-ghost use Rattle.mt_term.specs.EntryOf.{declaration_of};
-ghost use Rattle.mt_session.specs.Known.{IsPlainEnv, IsKnownEntry};
-ghost use Rattle.mt_kernel.specs.Answers.{answer_of, verdict_of, charge_of};
-ghost use Rattle.mt_session.specs.Runs.{kernel, refusal_of, ended, run, run_text, cost, is_clean, reply};
-ghost use Rattle.mt_session.specs.Units.{find, name_of};
-ghost use Rattle.mt_session.specs.Steps.{Accepts, CostIs, IsReady, IsPlacedFault, JudgesEntry, StepIs, blame_in, cost_on, reason_in, refusal_by};
+ghost use Rattle.std.specs.Prelude.{◌≡◌, ◌<◌, ◌≤◌, ◌+◌, ℕ, suc, if◌then◌else◌, IfOk, OnOk, OnErr};
+ghost use Rattle.mt_kernel.specs.Answers.{charge_of};
+ghost use Rattle.mt_term.specs.EnvironmentOf.{environment_of};
+ghost use Rattle.mt_unit_parser.specs.UnitOf.{kind_of, unit_of};
+ghost use Rattle.mt_session.specs.Moves.{charges_in, move, move_by};
+ghost use Rattle.mt_session.specs.Output.{run_text};
+ghost use Rattle.mt_session.specs.Plans.{takes_charge};
+ghost use Rattle.mt_session.specs.Ready.{IsClosedState, IsTaskOf};
+ghost use Rattle.mt_session.specs.Runs.{cost, empty_state, ended, is_clean, run};
+ghost use Rattle.mt_session.specs.Sessions.{AreTables, IsReady, state_in, task_of};
+ghost use Rattle.mt_session.specs.Steps.{CostIs, MovesAs, StepIs, blame_in, cost_on};
+ghost use Rattle.mt_session.specs.Tasks.{judged};
 
-use crate::columns::column;
-use crate::lookup::Table;
-use crate::parsing::{Halt, Parsed, unit_at};
-use crate::printing::{name_of, put_no, put_ok, put_state};
-use mt_kernel::{Verdict, check, check_type};
-use mt_term::{Entries, Entry, Fault, Names, OutOfMemory, Pairs, PlainEnv, Refusal};
+use crate::applying::apply;
+use crate::asking::{asked, takes_charge};
+use crate::judging::judge;
+use crate::reporting::{Report, report_on};
+use crate::sessions::Session;
+use crate::tasks::Task;
+use mt_term::{Fault, Halt, OutOfMemory};
 use mt_text::{Ledger, Steps};
+use mt_unit_parser::{Parsed, Unit, UnitKind, unit_at};
 use std::alloc::Global;
 
 // The allowance of each unit.
 const ALLOWANCE: u64 = 100_000;
-
-/// The state of a run: the environment, the names in use, the number of accepted units, and the end of the last.
-#[derive(Drop)]
-pub struct State {
-    pub env: PlainEnv,
-    pub known: Table,
-    pub units: usize,
-    pub place: usize,
-}
-
-/// What a run writes, and whether no unit was refused.
-#[derive(Drop)]
-pub struct Report {
-    pub text: Vec<u8>,
-    pub clean: bool,
-}
 
 /// Whether a run goes on after a unit, or with what fault it is over, if there is one.
 #[derive(Drop)]
@@ -49,45 +40,30 @@ pub fn run_script<L: Ledger>(
     steps: &mut Steps<L>,
 ) -> Result<Report, OutOfMemory>
     ensures text { IfOk result (λ r. r.text.items ≡ run_text text.now (run text.now)) }
-    ensures clean { IfOk result (λ r. r.clean ≡ is_clean (run text.now).fault) }
+    ensures clean { IfOk result (λ r. r.clean ≡ is_clean (run text.now)) }
     ensures cost { OnOk result (steps.new ≡ steps.old + cost text.now) }
     ensures wanting { OnErr result (steps.new ≤ steps.old + cost text.now) }
 {
-    let mut state = State {
-        env: PlainEnv {
-            entries: Entries::new(alloc),
-            names: Names::new(alloc),
-            below: Pairs::new(alloc),
-        },
-        known: Table::new(alloc),
-        units: 0,
-        place: 0,
-    };
-    let fault = advance(alloc, text, &mut state, steps)?;
-    report_on(alloc, text, &state, &fault)
+    let mut session = Session::new(alloc);
+    let fault = advance(alloc, text, &mut session, steps)?;
+    report_on(alloc, text, session, &fault)
 }
 
 // Takes units until one is refused or there is none.
 fn advance<L: Ledger>(
     alloc: Global,
     text: &str,
-    state: &mut State,
+    session: &mut Session,
     steps: &mut Steps<L>,
 ) -> Result<Option<Fault>, OutOfMemory>
-    requires entries { state.old.env.entries ≡ [] }
-    requires names { state.old.env.names ≡ [] }
-    requires below { state.old.env.below ≡ [] }
-    requires known { state.old.known ≡ [] }
-    requires units { state.old.units ≡ 0 }
-    requires place { state.old.place ≡ 0 }
-    ensures run { IfOk result (λ f. run text.now ≡ ended state.new.env.entries state.new.units state.new.place (blame_in f)) }
-    ensures placed { IfOk result (λ f. IsPlacedFault text.now f) }
-    ensures env { OnOk result (IsPlainEnv state.new.env.entries) }
+    requires state { state_in session.old ≡ empty_state }
+    requires tables { AreTables session.old }
+    ensures run { IfOk result (λ f. run text.now ≡ ended (state_in session.new) (blame_in f)) }
     ensures cost { OnOk result (steps.new ≡ steps.old + cost text.now) }
     ensures wanting { OnErr result (steps.new ≤ steps.old + cost text.now) }
 {
     'units: loop {
-        match take_unit(alloc, text, state, steps)? {
+        match take_unit(alloc, text, session, steps)? {
             Step::On => {}
             Step::Over(fault) => return Ok(fault),
         }
@@ -98,163 +74,87 @@ fn advance<L: Ledger>(
 fn take_unit<L: Ledger>(
     alloc: Global,
     text: &str,
-    state: &mut State,
+    session: &mut Session,
     steps: &mut Steps<L>,
 ) -> Result<Step, OutOfMemory>
-    requires { IsReady text.now state.old }
-    ensures step { IfOk result (λ s. StepIs text.now state.old state.new s) }
-    ensures ready { OnOk result (IsReady text.now state.new) }
-    ensures cost { IfOk result (λ s. CostIs text.now state.old state.new steps.old steps.new s) }
-    ensures wanting { OnErr result ((n : ℕ) → steps.new ≤ steps.old + cost_on text.now (suc n) state.old) }
+    requires { IsReady text.now session.old }
+    ensures step { IfOk result (λ s. StepIs text.now session.old session.new s) }
+    ensures ready { OnOk result (IsReady text.now session.new) }
+    ensures cost { IfOk result (λ s. CostIs text.now session.old session.new steps.old steps.new s) }
+    ensures wanting { OnErr result ((n : ℕ) → steps.new ≤ steps.old + cost_on text.now (suc n) session.old) }
 {
-    match unit_at(alloc, &state.known, text.as_bytes(), state.place) {
+    match unit_at(alloc, text, session.place) {
         Ok(Parsed::End) => Ok(Step::Over(None)),
-        Ok(Parsed::Unit { start, end, entry }) => {
-            take_entry(alloc, state, start, end, entry, steps)
-        }
-        Err(Halt::Wrong(at)) => Ok(Step::Over(Some(Fault {
-            refusal: Refusal::Syntax,
-            at,
-        }))),
-        Err(Halt::OutOfMemory) => Err(OutOfMemory),
+        Ok(Parsed::Unit(unit)) => take(alloc, session, &unit, steps),
+        Err(Halt::Refused(fault)) => Ok(Step::Over(Some(fault))),
+        Err(_) => Err(OutOfMemory),
     }
 }
 
-// Takes an entry, where nothing refuses it.
-fn take_entry<L: Ledger>(
+// Takes a unit.
+fn take<L: Ledger>(
     alloc: Global,
-    state: &mut State,
-    start: usize,
-    end: usize,
-    entry: Entry,
+    session: &mut Session,
+    unit: &Unit,
     steps: &mut Steps<L>,
 ) -> Result<Step, OutOfMemory>
-    requires env { IsPlainEnv state.old.env.entries }
-    requires names { state.old.env.names ≡ [] }
-    requires below { state.old.env.below ≡ [] }
-    requires entry { IsKnownEntry state.old.env.entries (declaration_of entry) }
-    requires fresh { find state.old.known (name_of (declaration_of entry)) ≡ None }
-    requires room { state.old.units < end }
-    ensures judges { IfOk result (λ s. JudgesEntry state.old state.new start end (declaration_of entry) s) }
-    ensures cost { OnOk result (steps.new ≡ steps.old + charge_of 100000 (kernel state.old.env.entries (declaration_of entry))) }
-    ensures wanting { OnErr result (steps.new ≤ steps.old + charge_of 100000 (kernel state.old.env.entries (declaration_of entry))) }
+    requires tables { AreTables session.old }
+    requires closed { IsClosedState (state_in session.old) }
+    requires room { session.old.units < unit.now.span.end }
+    ensures moves { IfOk result (λ s. MovesAs (move (state_in session.old) (unit_of unit.now) 100000) session.old session.new s) }
+    ensures cost { OnOk result (steps.new ≡ steps.old + charges_in 100000 (move (state_in session.old) (unit_of unit.now) 100000)) }
+    ensures wanting { OnErr result (steps.new ≤ steps.old + charges_in 100000 (move (state_in session.old) (unit_of unit.now) 100000)) }
 {
-    match judge(alloc, &state.env, &entry, steps)? {
+    let allowance = pay(session, &unit.kind, steps)?;
+    let start = unit.span.start;
+    match asked(alloc, session, start, &unit.kind) {
+        Ok(task) => settle(alloc, session, start, unit.span.end, task, allowance, steps),
+        Err(Halt::Refused(fault)) => Ok(Step::Over(Some(fault))),
+        Err(_) => Err(OutOfMemory),
+    }
+}
+
+// Takes the charge of an action; what is left of the allowance.
+fn pay<L: Ledger>(
+    session: &Session,
+    kind: &UnitKind,
+    steps: &mut Steps<L>,
+) -> Result<u64, OutOfMemory>
+    ensures left { IfOk result (λ n. n ≡ (if takes_charge (state_in session.now).proof (kind_of kind.now) then 99999 else 100000)) }
+    ensures cost { OnOk result (steps.new ≡ steps.old + (if takes_charge (state_in session.now).proof (kind_of kind.now) then 1 else 0)) }
+    ensures wanting { OnErr result (steps.new ≡ steps.old) }
+{
+    if takes_charge(session, kind)? {
+        steps.tick();
+        Ok(ALLOWANCE - 1)
+    } else {
+        Ok(ALLOWANCE)
+    }
+}
+
+// Takes what a unit asks for, where the kernel says yes.
+fn settle<L: Ledger>(
+    alloc: Global,
+    session: &mut Session,
+    start: usize,
+    end: usize,
+    task: Task,
+    allowance: u64,
+    steps: &mut Steps<L>,
+) -> Result<Step, OutOfMemory>
+    requires tables { AreTables session.old }
+    requires closed { IsClosedState (state_in session.old) }
+    requires fits { IsTaskOf (state_in session.old) (task_of task) }
+    requires room { session.old.units < end }
+    ensures moves { IfOk result (λ s. MovesAs (move_by (state_in session.old) start end (task_of task) (judged (environment_of session.old.env) (task_of task) allowance)) session.old session.new s) }
+    ensures cost { OnOk result (steps.new ≡ steps.old + charge_of allowance (judged (environment_of session.old.env) (task_of task) allowance)) }
+    ensures wanting { OnErr result (steps.new ≤ steps.old + charge_of allowance (judged (environment_of session.old.env) (task_of task) allowance)) }
+{
+    match judge(alloc, &session.env, &task, allowance, steps)? {
         None => {
-            accept(alloc, state, end, entry)?;
+            apply(alloc, session, end, task)?;
             Ok(Step::On)
         }
         Some(refusal) => Ok(Step::Over(Some(Fault { refusal, at: start }))),
-    }
-}
-
-// Adds an entry that was not refused.
-fn accept(alloc: Global, state: &mut State, end: usize, entry: Entry) -> Result<(), OutOfMemory>
-    requires fresh { find state.old.known (name_of (declaration_of entry)) ≡ None }
-    requires passed { refusal_of (kernel state.old.env.entries (declaration_of entry)) ≡ None }
-    requires room { state.old.units < end }
-    ensures { OnOk result (Accepts state.old state.new end (declaration_of entry)) }
-{
-    state.known.add(alloc, name_of(&entry).as_bytes())?;
-    state.env.entries.push(entry)?;
-    state.units += 1;
-    state.place = end;
-    Ok(())
-}
-
-// What refuses an entry, if anything does.
-#[tactic(auto, using(crate::proofs::Stepping::refusal_verdict))]
-fn judge<L: Ledger>(
-    alloc: Global,
-    env: &PlainEnv,
-    entry: &Entry,
-    steps: &mut Steps<L>,
-) -> Result<Option<Refusal>, OutOfMemory>
-    requires env { IsPlainEnv env.now.entries }
-    requires names { env.now.names ≡ [] }
-    requires below { env.now.below ≡ [] }
-    requires entry { IsKnownEntry env.now.entries (declaration_of entry.now) }
-    ensures refusal { IfOk result (λ r. reason_in r ≡ refusal_of (kernel env.now.entries (declaration_of entry.now))) }
-    ensures cost { OnOk result (steps.new ≡ steps.old + charge_of 100000 (kernel env.now.entries (declaration_of entry.now))) }
-    ensures wanting { OnErr result (steps.new ≤ steps.old + charge_of 100000 (kernel env.now.entries (declaration_of entry.now))) }
-{
-    let verdict = verdict_on(alloc, env, entry, steps)?;
-    Ok(refusal_by(&verdict))
-}
-
-#[tactic(auto, using(crate::proofs::Checking::kernel_rules))]
-fn verdict_on<L: Ledger>(
-    alloc: Global,
-    env: &PlainEnv,
-    entry: &Entry,
-    steps: &mut Steps<L>,
-) -> Result<Verdict, OutOfMemory>
-    requires env { IsPlainEnv env.now.entries }
-    requires names { env.now.names ≡ [] }
-    requires below { env.now.below ≡ [] }
-    requires entry { IsKnownEntry env.now.entries (declaration_of entry.now) }
-    ensures verdict { IfOk result (λ v. answer_of v ≡ verdict_of 100000 (kernel env.now.entries (declaration_of entry.now))) }
-    ensures cost { OnOk result (steps.new ≡ steps.old + charge_of 100000 (kernel env.now.entries (declaration_of entry.now))) }
-    ensures wanting { OnErr result (steps.new ≤ steps.old + charge_of 100000 (kernel env.now.entries (declaration_of entry.now))) }
-{
-    match entry {
-        Entry::Axiom { ty, .. } => check_type(alloc, env, ty, ALLOWANCE, steps),
-        Entry::Definition { ty, body, .. } => check(alloc, env, body, ty, ALLOWANCE, steps),
-        _ => unreachable!(),
-    }
-}
-
-fn refusal_by(verdict: &Verdict) -> Option<Refusal>
-    ensures { reason_in result ≡ refusal_by (answer_of verdict.now) }
-{
-    match verdict {
-        Verdict::Yes { .. } => None,
-        Verdict::No { reason } => Some(Refusal::KernelRefused(reason.number())),
-        Verdict::Spent => Some(Refusal::Spent),
-    }
-}
-
-fn report_on(
-    alloc: Global,
-    text: &str,
-    state: &State,
-    fault: &Option<Fault>,
-) -> Result<Report, OutOfMemory>
-    requires env { IsPlainEnv state.now.env.entries }
-    requires placed { IsPlacedFault text.now fault.now }
-    ensures text { IfOk result (λ r. r.text.items ≡ run_text text.now (ended state.now.env.entries state.now.units state.now.place (blame_in fault.now))) }
-    ensures clean { IfOk result (λ r. r.clean ≡ is_clean (blame_in fault.now)) }
-{
-    let mut out = Vec::new(alloc);
-    put_reply(alloc, &mut out, text, state, fault)?;
-    put_state(
-        alloc,
-        &mut out,
-        &state.env.entries,
-        state.units,
-        state.place,
-    )?;
-    Ok(Report {
-        text: out,
-        clean: fault.is_none(),
-    })
-}
-
-fn put_reply(
-    alloc: Global,
-    out: &mut Vec<u8>,
-    text: &str,
-    state: &State,
-    fault: &Option<Fault>,
-) -> Result<(), OutOfMemory>
-    requires { IsPlacedFault text.now fault.now }
-    ensures { OnOk result (out.new.items ≡ out.old.items ++ reply text.now state.now.units state.now.place (blame_in fault.now)) }
-{
-    match fault {
-        None => put_ok(alloc, out, state.units, state.place),
-        Some(found) => {
-            let column = column(text, found.at);
-            put_no(alloc, out, state.units, state.place, found, column)
-        }
     }
 }

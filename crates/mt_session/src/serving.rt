@@ -1,15 +1,16 @@
 // The top call.
-ghost use Rattle.std.specs.Prelude.{◌≡◌, ◌+◌, ◌<◌, ◌≤◌, ◌↔◌, ℕ, [], if◌then◌else◌, length, IfOk, IfSome, IsErrOf};
+ghost use Rattle.std.specs.Prelude.{◌≡◌, ◌+◌, ◌<◌, ◌≤◌, ◌↔◌, ℕ, if◌then◌else◌, length, IfOk, IfSome, IsErrOf};
 ghost use Rattle.std.specs.Io.KnownBytes.{Appends, Keeps};
 ghost use Rattle.std.specs.Str.{is_utf8};
 ghost use Rattle.mt_text.specs.Causes.{Rose, AppendsPrefix};
-ghost use Rattle.mt_term.specs.SoundEnvironment.{SoundEnvironment};
-ghost use Rattle.mt_session.specs.Known.{alone};
+ghost use Rattle.mt_term.specs.Derivable.{Derivable};
 ghost use Rattle.mt_session.specs.declared.serving.ReadStop.TheVariants.{OutOfMemory};
-ghost use Rattle.mt_session.specs.Runs.{output_of, status_of, charges_of, run_from, most};
+ghost use Rattle.mt_session.specs.Output.{output_of, status_of, charges_of, most};
+ghost use Rattle.mt_session.specs.Runs.{empty_state, run_from};
 ghost use Rattle.mt_session.specs.Served.{GivesAtMost, IsWhole, IsCut, IsUnread, IsAnswer, code_of};
 
-use crate::running::{Report, run_script};
+use crate::reporting::Report;
+use crate::running::run_script;
 use mt_term::OutOfMemory;
 use mt_text::{Ledger, Sink, Source, Steps, write_all};
 use std::alloc::{AllocError, Global};
@@ -17,9 +18,9 @@ use std::alloc::{AllocError, Global};
 /// How a run ends.
 #[derive(Clone, Copy, Debug, PartialEq, Eq)]
 pub enum Status {
-    /// All units were accepted.
+    /// All units were accepted, and no proof is open.
     Done,
-    /// A unit was refused.
+    /// A unit was refused, or a proof is open at the end.
     Refused,
     /// The words are not of the form.
     Usage,
@@ -82,8 +83,8 @@ pub fn serve<I: Source, O: Sink, L: Ledger>(
     ensures at_most { IfSome (I.left input.old) (λ bytes. steps.new ≤ steps.old + charges_of bytes) }
     ensures uncharged { IsUnread result → steps.new ≡ steps.old }
 
-    // Each state of the run has a sound environment.
-    ensures sound { IfSome (I.left input.old) (λ bytes. (n : ℕ) → SoundEnvironment (alone (run_from bytes n [] 0 0).entries)) }
+    // Each state of the run is derivable.
+    ensures sound { IfSome (I.left input.old) (λ bytes. (n : ℕ) → Derivable (run_from bytes n empty_state).state) }
 
     // A fault comes only from its device.
     ensures read { result ≡ Status.ReadFault → Rose (I.faults input.old) (I.faults input.new) }

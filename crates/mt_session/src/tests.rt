@@ -39,7 +39,7 @@ fn served(
 #[test]
 fn each_script_has_its_output_and_status(rt: HostRuntime) -> Result<(), Fail> {
     let alloc = rt.alloc();
-    let cases: [(&str, Status, &str); 5] = [
+    let cases: [(&str, Status, &str); 12] = [
         (
             "",
             Status::Done,
@@ -61,9 +61,44 @@ fn each_script_has_its_output_and_status(rt: HostRuntime) -> Result<(), Fail> {
             "no 0 0 2 Syntax 8 9\nstate 0 0\nenv 0\nproof none\nend\n",
         ),
         (
-            "axiom a : Prop. axiom b : a.\n  axiom a : b.",
+            "axiom a : %.",
             Status::Refused,
-            "no 2 28 2 Syntax 37 9\nstate 2 28\nenv 2\naxiom a : Prop.\naxiom b : a.\nproof none\nend\n",
+            "no 0 0 1 Lex 10 11\nstate 0 0\nenv 0\nproof none\nend\n",
+        ),
+        (
+            "axiom a : Prop",
+            Status::Refused,
+            "no 0 0 3 Incomplete 14 15\nstate 0 0\nenv 0\nproof none\nend\n",
+        ),
+        (
+            "axiom a : b.",
+            Status::Refused,
+            "no 0 0 5 Unbound 10 11\n  name b\nstate 0 0\nenv 0\nproof none\nend\n",
+        ),
+        (
+            "axiom a : Prop. axiom a : Prop.",
+            Status::Refused,
+            "no 1 15 6 Taken 16 17\n  name a\nstate 1 15\nenv 1\naxiom a : Prop.\nproof none\nend\n",
+        ),
+        (
+            "universe constraint a < b. universe constraint b < c. universe constraint c < a.",
+            Status::Refused,
+            "no 2 53 11 Cycle 54 55\nstate 2 53\nenv 2\nuniverse constraint a < b.\nuniverse constraint b < c.\nproof none\nend\n",
+        ),
+        (
+            "theorem t : Type[1]. exact Type[0]. qed.",
+            Status::Done,
+            "ok 4 40\nstate 4 40\nenv 1\ndefinition t : Type[1] ≝ Type[0].\nproof none\nend\n",
+        ),
+        (
+            "theorem t : Type[1]. qed.",
+            Status::Refused,
+            "no 1 20 17 OpenMetas 21 22\nstate 1 20\nenv 0\nproof t : Type[1]\ngoals 1\ngoal 0 focus\n  ⊢ Type[1]\nterm ?0[]\nend\n",
+        ),
+        (
+            "qed.",
+            Status::Refused,
+            "no 0 0 21 NotHere 0 1\nstate 0 0\nenv 0\nproof none\nend\n",
         ),
     ];
     for (script, wanted, text) in &cases {
