@@ -51,4 +51,5 @@ pub mod PlaceLaws
 pub mod NormalRules
 pub mod AllowanceTheorem
 mod CalculusExamples
+mod TermExamples
 pub mod UnfoldLaws
