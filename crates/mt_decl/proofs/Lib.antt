@@ -1,0 +1,7 @@
+pub mod Free
+pub mod Abstracted
+pub mod Makes
+pub mod Entries
+pub mod Constructors
+pub mod Sound
+pub mod Allowance

@@ -1,0 +1,6 @@
+pub mod Answers
+pub mod Telescopes
+pub mod Declaring
+pub mod EntryLaws
+pub mod Examples
+pub mod FunctionExamples
