@@ -1,4 +1,4 @@
--- The terms that the kernel checks so far: no match, inductive type, constructor or metavariable stands in them.
+-- Terms of variables, sorts, products, abstractions, applications and constants; and axioms and definitions over such terms.
 use Rattle.std.specs.Prelude.{◌≡◌, ℕ, Some, slice_get}
 use Rattle.mt_term.specs.Trees.{Tree, Var, Sort, Prod, Lam, App, Const}
 use Rattle.mt_term.specs.Declarations.{Declaration, Axiom, Definition, Environment}

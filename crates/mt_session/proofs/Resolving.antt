@@ -127,7 +127,7 @@ normal_named n u h = named_all n u.atoms [] h (All-nil (λ (a : Atom). a.name < 
 
 -- ---- terms
 
--- a term of the forms that the kernel takes so far, in scope under so many hypotheses
+-- a term of the forms that scripts have so far, in scope under so many hypotheses
 abbrev IsTaken : Environment → ℕ → Tree → Type 0
 IsTaken E n t = IsPlain t × InScope E no_store n t
 

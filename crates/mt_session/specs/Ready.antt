@@ -14,7 +14,7 @@ use Rattle.mt_universe.specs.Graphs.{declared}
 use Rattle.mt_kernel.specs.Plain.{IsPlain}
 use Rattle.mt_session.specs.Tasks.{Task, Order, Enter, Begin, Close, Rest, Finish, universes_of, open_goal}
 
--- a closed term without metavariables, of the forms that the kernel takes so far
+-- a closed term of the forms that scripts have so far, without metavariables
 abbrev pub IsClosed : Environment → Tree → Type 0
 IsClosed E t = IsPlain t × InScope E no_store 0 t
 

@@ -42,7 +42,7 @@ abbrev pub blame_in : Option Fault → Option Blame
 blame_in None = None
 blame_in (Some f) = Some (blame_of f)
 
--- the terms of a task are of the forms that the kernel takes so far
+-- the terms of a task are of the forms that scripts have so far
 abbrev pub IsPlainTask : Task → Type 0
 IsPlainTask (Enter d) = IsPlainEntry d
 IsPlainTask (Begin x T) = IsPlain T
