@@ -23,7 +23,7 @@ use Rattle.mt_decl.specs.Answers.{by_kernel, is_accepted}
 use Rattle.mt_decl.specs.Telescopes.{generalized, names_of, result_sort}
 use Rattle.mt_decl.specs.Declaring.{or_not_positive, argument_check, arguments_fit, do_arguments_fit, argument_sorts, Family, Declared, one_more, declared_constructor, declared_constructors}
 use Rattle.mt_decl.proofs.Free.{Free, none_of, FreeContext, resolved_finds, generalized_free}
-use Rattle.mt_decl.proofs.Abstracted.{abstracted_has}
+use Rattle.mt_decl.proofs.ContextChecks.{abstracted_has}
 use Rattle.mt_decl.proofs.Makes.{Makes, makes, refuses, then_makes, so_makes, taken_makes, kernel_makes, accepted_makes}
 
 -- ---- the kernel

@@ -1,7 +1,8 @@
 pub mod Free
-pub mod Abstracted
+pub mod ContextChecks
 pub mod Makes
 pub mod Entries
 pub mod Constructors
 pub mod Sound
 pub mod Allowance
+pub mod Names

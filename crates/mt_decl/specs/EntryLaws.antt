@@ -1,7 +1,9 @@
 -- The laws on declared entries, as statements.
-use Rattle.std.specs.Prelude.{◌≡◌, ◌≤◌, ◌+◌, ℕ, zero, length}
+use Rattle.std.specs.Prelude.{◌≡◌, ◌≤◌, ◌+◌, ℕ, zero, [], ◌∷◌, ◌++◌, length}
 use Rattle.mt_term.specs.Declarations.{Declaration, Environment}
+use Rattle.mt_term.specs.Naming.{naming}
 use Rattle.mt_term.specs.SoundEnvironment.{with_entry, SoundEntry, SoundEnvironment}
+use Rattle.mt_env.specs.Names.{Distinct}
 use Rattle.mt_unit_parser.specs.WrittenUnits.{WrittenKind}
 use Rattle.mt_decl.specs.Answers.{Answer, Made, Refused, Spent, Answering}
 use Rattle.mt_decl.specs.Declaring.{declared_entry}
@@ -29,3 +31,7 @@ GoesByAllowance m = ((n i : ℕ) → (m n ≡ Spent → ⊥) → m (n + i) ≡ w
 -- what a unit declares goes by its allowance
 abbrev pub DeclaredAllowanceLaw : Type 0
 DeclaredAllowanceLaw = (E : Environment) (start : ℕ) (kind : WrittenKind) → GoesByAllowance (declared_entry E start kind)
+
+-- where no two entries or constructors of an environment have one name, none have with what a unit declares
+abbrev pub DeclaredNamesLaw : Type 0
+DeclaredNamesLaw = (E : Environment) (start : ℕ) (kind : WrittenKind) (d : Declaration) (n l : ℕ) → declared_entry E start kind n ≡ Made d l → Distinct (naming E.entries) → Distinct (naming (E.entries ++ d ∷ []))

@@ -4,3 +4,4 @@ pub mod Declaring
 pub mod EntryLaws
 pub mod Examples
 pub mod FunctionExamples
+pub mod TelescopeOf

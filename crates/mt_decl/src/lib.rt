@@ -1,7 +1,13 @@
-//! The entries that units declare: functions that do nothing, and their clauses are the laws.
+//! The entries that units declare: terms closed over a context; and functions that do nothing, whose clauses are the laws.
 #![tactic(auto)]
 
-ghost use Rattle.mt_decl.specs.EntryLaws.{DeclaredLaw, DeclaredAllowanceLaw};
+ghost use Rattle.mt_decl.specs.EntryLaws.{DeclaredAllowanceLaw, DeclaredLaw, DeclaredNamesLaw};
+
+mod telescopes;
+#[cfg(test)]
+mod tests;
+
+pub use telescopes::{Telescope, abstracted, generalized, result_sort};
 
 /// Over a sound environment a unit declares a sound entry, and the environment with it is sound.
 pub fn declared_is_sound()
@@ -13,13 +19,7 @@ pub fn declared_by_allowance()
     ensures law { DeclaredAllowanceLaw }
 {}
 
-#[cfg(test)]
-mod tests {
-    use super::*;
-
-    #[test]
-    fn laws(_rt: HostRuntime) {
-        declared_is_sound();
-        declared_by_allowance();
-    }
-}
+/// Where no two entries or constructors of an environment have one name, none have with what a unit declares.
+pub fn declared_keeps_names_distinct()
+    ensures law { DeclaredNamesLaw }
+{}

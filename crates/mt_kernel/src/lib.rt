@@ -109,8 +109,13 @@ pub fn check_type<L: Ledger>(
     }
 }
 
+/// Whether `term` has the type `ty`, with what is left of an allowance, also after a No.
+///
+/// # Errors
+///
+/// `Refused` where the kernel says No, and `Spent` where the allowance does not suffice to say.
 #[tactic(auto, using(mt_term::proofs::InferenceRules::check_rules))]
-fn check_term<L: Ledger>(
+pub fn check_term<L: Ledger>(
     alloc: Global,
     env: &PlainEnv,
     term: &Term,
@@ -136,8 +141,13 @@ fn check_term<L: Ledger>(
     )
 }
 
+/// The sort of a type, with what is left of an allowance, also after a No.
+///
+/// # Errors
+///
+/// `Refused` where the kernel says No, and `Spent` where the allowance does not suffice to say.
 #[tactic(auto, using(mt_term::proofs::InferenceRules::check_rules))]
-fn check_sort<L: Ledger>(
+pub fn check_sort<L: Ledger>(
     alloc: Global,
     env: &PlainEnv,
     ty: &Term,

@@ -61,13 +61,14 @@ impl Table {
     pub fn add(&mut self, alloc: Global, number: usize, entry: &Entry) -> Result<(), OutOfMemory>
         ensures ok { OnOk result (FindsSame self.new (self.old ++ naming_entry number (declaration_of entry.now))) }
         ensures names { OnOk result ((es : List Declaration) → length es ≡ number → AreNamesOf self.old es → AreNamesOf self.new (es ++ declaration_of entry.now ∷ [])) }
+        ensures kept { OnOk result (Extends self.old self.new) }
         ensures err { OnErr result (self.new ≡ self.old) }
     {
         let count = self.len();
         match self.add_entry(alloc, number, entry) {
             Ok(()) => Ok(()),
             Err(wanting) => {
-                self.cut(count);
+                self.truncate(count);
                 Err(wanting)
             }
         }
@@ -130,14 +131,15 @@ impl Table {
         Ok(())
     }
 
-    // The oldest names alone.
-    fn cut(&mut self, count: usize)
+    /// Goes back to the oldest names.
+    pub fn truncate(&mut self, count: usize)
         ensures { self.new ≡ take count self.old }
     {
         self.names.truncate(count);
     }
 
-    fn len(&self) -> usize
+    /// How many names there are.
+    pub fn len(&self) -> usize
         ensures { result ≡ length self.now }
     {
         self.names.len()

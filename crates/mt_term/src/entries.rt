@@ -1,5 +1,5 @@
 // Entries of environments, as the program holds them.
-ghost use Rattle.std.specs.Prelude.{◌≡◌, [], ◌∷◌, ◌++◌, length, slice_get, OnOk, OnErr};
+ghost use Rattle.std.specs.Prelude.{◌≡◌, [], ◌∷◌, ◌++◌, length, take, slice_get, OnOk, OnErr};
 ghost use Rattle.mt_term.specs.EntryOf.{declaration_of, seen_declaration};
 
 use crate::constructors::Cons;
@@ -83,6 +83,13 @@ impl Entries {
         ensures { result ≡ length self.now }
     {
         self.items.len()
+    }
+
+    /// Goes back to the first entries.
+    pub fn truncate(&mut self, count: usize)
+        ensures { self.new ≡ take count self.old }
+    {
+        self.items.truncate(count);
     }
 
     /// The entry of a number.

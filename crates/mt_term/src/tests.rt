@@ -58,6 +58,8 @@ fn entries_and_hypotheses_are_lists(rt: HostRuntime) -> Result<(), Fail> {
         ty: Term::Sort(Sort::Prop),
     })?;
     assert!(rt; entries.len() == 1 && entries.get(1).is_none());
+    entries.truncate(0);
+    assert!(rt; entries.len() == 0);
     let mut hyps = Hyps::new(alloc);
     hyps.push(Hyp {
         name: name(alloc)?,

@@ -39,6 +39,17 @@ mod tests {
             ("match x with [", (3, 14)),
             ("_", (2, 0)),
             ("f => a", (0, 1)),
+            ("(t : T)", (0, 7)),
+            ("(f) (a)", (0, 7)),
+            ("fun _.Prop", (0, 10)),
+            ("forall x:A.?", (0, 12)),
+            ("A -> B", (0, 6)),
+            ("Type[v, 3]", (0, 10)),
+            ("match n with []", (0, 15)),
+            ("Type", (3, 4)),
+            ("Type[u+]", (2, 7)),
+            ("match x with [ | c ⇒ x ]", (2, 15)),
+            ("(t : T", (3, 6)),
         ];
         for (text, expected) in cases {
             assert_eq!(rt; outcome(rt.alloc(), text), expected);

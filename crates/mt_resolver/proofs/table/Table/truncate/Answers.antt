@@ -1,7 +1,7 @@
 use Rattle.std.proofs.Common.{◌∙◌, map, take, sym, ap}
 use Rattle.std.proofs.lemmas.List.{take-map}
 use Rattle.mt_resolver.proofs.Tables.{seen_entry}
-use Rattle.mt_resolver.proofs.table.Table.cut.Goals as goal
+use Rattle.mt_resolver.proofs.table.Table.truncate.Goals as goal
 
 pub returns : goal.returns
 returns c =
