@@ -1,5 +1,6 @@
 pub mod Answers
 pub mod Telescopes
+pub mod Declares
 pub mod Declaring
 pub mod EntryLaws
 pub mod Examples

@@ -3,10 +3,12 @@
 
 ghost use Rattle.mt_decl.specs.EntryLaws.{DeclaredAllowanceLaw, DeclaredLaw, DeclaredNamesLaw};
 
+mod declaring;
 mod telescopes;
 #[cfg(test)]
 mod tests;
 
+pub use declaring::declare_plain;
 pub use telescopes::{Telescope, abstracted, generalized, result_sort};
 
 /// Over a sound environment a unit declares a sound entry, and the environment with it is sound.
