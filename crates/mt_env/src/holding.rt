@@ -27,9 +27,13 @@ fn hold_constructors(alloc: Global, pool: &mut Pool, cons: &Cons) -> Result<Held
     Ok(held)
 }
 
-// An entry with ids in place of its terms.
+/// An entry with ids in place of its terms.
+///
+/// # Errors
+///
+/// `OutOfMemory` where memory is wanting.
 #[tactic(auto, using(mt_pool::proofs::Region::kept))]
-pub(crate) fn hold(alloc: Global, pool: &mut Pool, entry: &Entry) -> Result<Held, OutOfMemory>
+pub fn hold(alloc: Global, pool: &mut Pool, entry: &Entry) -> Result<Held, OutOfMemory>
     ensures kept { Kept pool.old pool.new }
     ensures below { IfOk result (λ held. HeldBelow (length pool.new) held) }
     ensures says { IfOk result (λ held. declaration_in pool.new held ≡ declaration_of entry.now) }

@@ -10,5 +10,6 @@ mod stops;
 mod table;
 
 pub use environments::{Env, EnvMark};
+pub use holding::hold;
 pub use refs::Ref;
 pub use stops::EnvStop;

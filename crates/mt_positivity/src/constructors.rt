@@ -67,9 +67,9 @@ fn is_positive(
     is_positive_from(pool, number, indices, params, 0, ty, constructor)
 }
 
-// How many products stand at the front of a type.
+/// How many products stand at the front of a type. A term deeper than `deep` counts as want of memory.
 #[tactic(auto, using(mt_pool::proofs::Region::kept))]
-fn products(pool: &Pool, t: TermId, deep: usize) -> Result<usize, OutOfMemory>
+pub fn products(pool: &Pool, t: TermId, deep: usize) -> Result<usize, OutOfMemory>
     requires { t.at < length pool.now }
     ensures { IfOk result (λ many. many ≡ products (tree_at pool.now t)) }
 {

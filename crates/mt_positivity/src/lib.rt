@@ -7,4 +7,4 @@ mod constructors;
 mod tests;
 
 pub use arguments::{Family, avoid_terms, avoids, is_recursive, is_type_on};
-pub use constructors::positive;
+pub use constructors::{positive, products};
