@@ -1,8 +1,8 @@
 -- What an environment says as its pool grows.
-use Rattle.std.proofs.Common.{Bool, true, ℕ, zero, suc, ◌<◌, ◌≤◌, ◌≡◌, List, [], ◌∷◌, map, length, Option, Some, None, slice_get, option_map, refl, ap, sym, subst, ◌∙◌, arith}
-use Rattle.std.proofs.lemmas.Option.{slice_get-map}
+use Rattle.std.proofs.Common.{Bool, true, ℕ, zero, suc, ◌<◌, ◌≤◌, ◌≡◌, List, [], ◌∷◌, ◌++◌, map, length, Option, Some, None, slice_get, option_map, refl, ap, sym, subst, ◌∙◌, arith}
+use Rattle.std.proofs.lemmas.Option.{slice_get-map, slice_get_past}
 use Rattle.mt_term.specs.Trees.{Tree}
-use Rattle.mt_term.specs.Declarations.{Axiom, Definition, Inductive, Recursive, Environment}
+use Rattle.mt_term.specs.Declarations.{Axiom, Definition, Inductive, Recursive, Declaration, Environment}
 use Rattle.mt_term.specs.Charges.{Done}
 use Rattle.mt_term.specs.Stores.{Store}
 use Rattle.mt_term.specs.WeakHead.{whd}
@@ -16,8 +16,8 @@ use Rattle.mt_pool.specs.declared.held.Held.TheVariants.{Axiom as HeldAxiom, Def
 use Rattle.mt_pool.specs.declared.held.HeldConstructor.{HeldConstructor}
 use Rattle.mt_pool.specs.HeldOf.{constructor_in, constructors_in, ConstructorsBelow, declaration_in, HeldBelow}
 use Rattle.mt_pool.proofs.Region.{tree-kept, length-kept}
-use Rattle.mt_layers.specs.declared.environment.HeldEnv.{HeldEnv}
-use Rattle.mt_layers.specs.Environments.{environment_in, EntriesBelow, EnvBelow, declaration_seen, SeenBelow}
+use Rattle.mt_env.specs.Environments.{HeldEnvironment, no_entries, EntriesBelow, IsAdded}
+use Rattle.mt_layers.specs.Environments.{environment_in, EnvBelow, declaration_seen, SeenBelow}
 use Rattle.mt_term.specs.Seen.{seen}
 use denote.Bor.{Bor}
 
@@ -35,9 +35,9 @@ entries-kept : (p q : List Tree) (hs : List Held) → Kept p q → EntriesBelow 
 entries-kept p q [] k h = refl
 entries-kept p q (d ∷ hs) k h = λ i. declaration-kept p q d k h.0 i ∷ entries-kept p q hs k h.1 i
 
-pub env-kept : (p q : List Tree) (env : HeldEnv) → Kept p q → EnvBelow (length p) env → environment_in q env ≡ environment_in p env
+pub env-kept : (p q : List Tree) (env : HeldEnvironment) → Kept p q → EnvBelow (length p) env → environment_in q env ≡ environment_in p env
 unfolding environment_in EnvBelow
-env-kept p q env k h = λ i. record { entries = entries-kept p q env.entries.items k h i; names = env.graph.names; below = env.graph.below }
+env-kept p q env k h = λ i. record { entries = entries-kept p q env.entries k h i; names = env.graph.names; below = env.graph.below }
 
 pub constructors-more : (n m : ℕ) (cs : List HeldConstructor) → n ≤ m → ConstructorsBelow n cs → ConstructorsBelow m cs
 constructors-more n m [] l h = tt
@@ -53,35 +53,35 @@ entries-more : (n m : ℕ) (hs : List Held) → n ≤ m → EntriesBelow n hs �
 entries-more n m [] l h = tt
 entries-more n m (d ∷ hs) l h = (held-more n m d l h.0, entries-more n m hs l h.1)
 
-pub env-below : (p q : List Tree) (env : HeldEnv) → Kept p q → EnvBelow (length p) env → EnvBelow (length q) env
+pub env-below : (p q : List Tree) (env : HeldEnvironment) → Kept p q → EnvBelow (length p) env → EnvBelow (length q) env
 unfolding EnvBelow
-env-below p q env k h = entries-more _ _ env.entries.items (length-kept p q k) h
+env-below p q env k h = entries-more _ _ env.entries (length-kept p q k) h
 
 -- an entry that is found
-seen_is : (p : List Tree) (env : HeldEnv) (n : ℕ) → option_map (declaration_in p) (slice_get env.entries.items n) ≡ slice_get (environment_in p env).entries n
+seen_is : (p : List Tree) (env : HeldEnvironment) (n : ℕ) → option_map (declaration_in p) (slice_get env.entries n) ≡ slice_get (environment_in p env).entries n
 unfolding environment_in
-seen_is p env n = sym (slice_get-map (declaration_in p) env.entries.items n)
+seen_is p env n = sym (slice_get-map (declaration_in p) env.entries n)
 
 pub below-at : (m : ℕ) (hs : List Held) (n : ℕ) (h : Held) → EntriesBelow m hs → slice_get hs n ≡ Some h → HeldBelow m h
 below-at m [] n h b e = absurd cc
 below-at m (d ∷ hs) zero h b e = let same : d ≡ h = cc in subst (HeldBelow m) same b.0
 below-at m (d ∷ hs) (suc n) h b e = below-at m hs n h b.1 e
 
-pub entry-none : (p : List Tree) (env : HeldEnv) (n : ℕ) → slice_get env.entries.items n ≡ None → slice_get (environment_in p env).entries n ≡ None
+pub entry-none : (p : List Tree) (env : HeldEnvironment) (n : ℕ) → slice_get env.entries n ≡ None → slice_get (environment_in p env).entries n ≡ None
 entry-none p env n e = sym (seen_is p env n) ∙ ap (option_map (declaration_in p)) e
 
-pub entry-some : (p : List Tree) (env : HeldEnv) (n : ℕ) (h : Held) → slice_get env.entries.items n ≡ Some h → slice_get (environment_in p env).entries n ≡ Some (declaration_in p h)
+pub entry-some : (p : List Tree) (env : HeldEnvironment) (n : ℕ) (h : Held) → slice_get env.entries n ≡ Some h → slice_get (environment_in p env).entries n ≡ Some (declaration_in p h)
 entry-some p env n h e = sym (seen_is p env n) ∙ ap (option_map (declaration_in p)) e
 
-pub entry-below : (m : ℕ) (env : HeldEnv) (n : ℕ) (h : Held) → EnvBelow m env → slice_get env.entries.items n ≡ Some h → HeldBelow m h
+pub entry-below : (m : ℕ) (env : HeldEnvironment) (n : ℕ) (h : Held) → EnvBelow m env → slice_get env.entries n ≡ Some h → HeldBelow m h
 unfolding EnvBelow
-entry-below m env n h b e = below-at m env.entries.items n h b e
+entry-below m env n h b e = below-at m env.entries n h b e
 
-pub seen-entry : (p : List Tree) (env : HeldEnv) (n : ℕ) (r : Option (Bor Held)) → seen r ≡ slice_get env.entries.items n → declaration_seen p r ≡ slice_get (environment_in p env).entries n
+pub seen-entry : (p : List Tree) (env : HeldEnvironment) (n : ℕ) (r : Option (Bor Held)) → seen r ≡ slice_get env.entries n → declaration_seen p r ≡ slice_get (environment_in p env).entries n
 seen-entry p env n None e = sym (entry-none p env n (sym e))
 seen-entry p env n (Some h) e = sym (entry-some p env n h.now (sym e))
 
-pub seen-below : (m : ℕ) (env : HeldEnv) (n : ℕ) (r : Option (Bor Held)) → seen r ≡ slice_get env.entries.items n → EnvBelow m env → SeenBelow m r
+pub seen-below : (m : ℕ) (env : HeldEnvironment) (n : ℕ) (r : Option (Bor Held)) → seen r ≡ slice_get env.entries n → EnvBelow m env → SeenBelow m r
 seen-below m env n None e b = tt
 seen-below m env n (Some h) e b = entry-below m env n h.now b (sym e)
 
@@ -100,6 +100,24 @@ constructor-below m (d ∷ cs) zero c b e = let same : d ≡ c = cc in subst (λ
 constructor-below m (d ∷ cs) (suc k) c b e = constructor-below m cs k c b.1 e
 
 pub ruleset environment_rules = (env-kept, env-below)
+
+-- where no entry is, and where one is added
+pub none-below : (n : ℕ) (env : HeldEnvironment) → env ≡ no_entries → EnvBelow n env
+unfolding EnvBelow
+none-below n env e = subst (λ (v : HeldEnvironment). EntriesBelow n v.entries) (sym e) tt
+
+entries-then : (n : ℕ) (hs : List Held) (h : Held) → EntriesBelow n hs → HeldBelow n h → EntriesBelow n (hs ++ h ∷ [])
+entries-then n [] h b last = (last, tt)
+entries-then n (d ∷ hs) h b last = (b.0, entries-then n hs h b.1 last)
+
+pub added-below : (p q : List Tree) (old new : HeldEnvironment) (d : Declaration) → IsAdded old new q d → Kept p q → EnvBelow (length p) old → EnvBelow (length q) new
+unfolding EnvBelow
+added-below p q old new d added k b = subst (λ (v : HeldEnvironment). EntriesBelow (length q) v.entries) (sym added.1.0) (entries-then (length q) old.entries added.0 (env-below p q old k b) added.1.1.0)
+
+pub ruleset added_rules = (none-below, added-below)
+
+pub past_end : {A : Type 0} (xs : List A) (n : ℕ) → length xs ≤ n → slice_get xs n ≡ None
+past_end xs n l = slice_get_past xs n l
 
 -- a weak head is reached by contractions
 pub reached_by : (E : Environment) (S : Store) (t u : Tree) (n l : ℕ) → whd E S t n ≡ Done u l → ReachedFrom E S t u

@@ -1,26 +1,21 @@
--- What an environment that is held in a pool says.
-use Rattle.std.specs.Prelude.{ℕ, ◌<◌, List, [], ◌∷◌, map, Option, Some, None}
+-- What is found in an environment that is held in a pool.
+use Rattle.std.specs.Prelude.{ℕ, ◌<◌, List, Option, Some, None}
 use Rattle.mt_term.specs.Trees.{Tree}
 use Rattle.mt_term.specs.Declarations.{Declaration, Environment}
 use Rattle.mt_pool.specs.declared.held.Held.{Held}
 use Rattle.mt_pool.specs.declared.nodes.TermId.{TermId}
 use Rattle.mt_pool.specs.HeldOf.{declaration_in, HeldBelow}
 use Rattle.mt_pool.specs.Region.{tree_at}
-use Rattle.mt_layers.specs.declared.environment.HeldEnv.{HeldEnv}
+use Rattle.mt_env.specs.Environments.{HeldEnvironment, EntriesBelow, environment_in as said_in}
 use denote.Bor.{Bor}
 
--- the environment over the trees of a pool
-unfoldable pub environment_in : List Tree → HeldEnv → Environment
-environment_in p env = record { entries = map (declaration_in p) env.entries.items; names = env.graph.names; below = env.graph.below }
-
--- all ids of the entries are below n
-abbrev pub EntriesBelow : ℕ → List Held → Type 0
-EntriesBelow n [] = Unit {0}
-EntriesBelow n (h ∷ hs) = HeldBelow n h × EntriesBelow n hs
+-- the environment over the trees of a pool, as one word
+unfoldable pub environment_in : List Tree → HeldEnvironment → Environment
+environment_in p env = said_in p env
 
 -- where n is the length of a pool, it holds the environment
-unfoldable pub EnvBelow : ℕ → HeldEnv → Type 0
-EnvBelow n env = EntriesBelow n env.entries.items
+unfoldable pub EnvBelow : ℕ → HeldEnvironment → Type 0
+EnvBelow n env = EntriesBelow n env.entries
 
 -- an entry that was found
 abbrev pub declaration_seen : List Tree → Option (Bor Held) → Option Declaration

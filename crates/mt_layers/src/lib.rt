@@ -2,7 +2,7 @@
 #![tactic(auto)]
 
 mod convert;
-mod environment;
+mod entries;
 mod infer;
 mod nodes;
 #[cfg(test)]
@@ -11,7 +11,7 @@ mod whd;
 mod work;
 
 pub use convert::Convert;
-pub use environment::{HeldEnv, constructor_type, entry, type_of_constructor};
+pub use entries::{constructor_type, entry, type_of_constructor};
 pub use infer::Infer;
 pub use nodes::{copy_branches, copy_ids, copy_node};
 pub use whd::Whd;

@@ -2,10 +2,11 @@
 ghost use Rattle.std.specs.Prelude.{◌≡◌, ◌<◌};
 
 use crate::{
-    HeldEnv, Work, constructor_type, copy_branches, copy_ids, copy_node, entry, type_of_constructor,
+    Work, constructor_type, copy_branches, copy_ids, copy_node, entry, type_of_constructor,
 };
-use mt_pool::{BranchIds, Held, HeldCons, HeldConstructor, Node, Pool, TermIds};
-use mt_term::{Name, OutOfMemory, Sort, Term};
+use mt_env::{Env, EnvStop};
+use mt_pool::{BranchIds, Held, HeldCons, Node, Pool, TermIds};
+use mt_term::{Cons, Constructor, Entry, Name, Sort, Term};
 use mt_text::{Ledger, PlainLedger, Steps};
 use std::alloc::{AllocFailed, Global};
 use std::sync::ledger::Blank;
@@ -19,7 +20,7 @@ fn charged<L: Ledger>(alloc: Global, left: u64, blank: Blank) -> (bool, bool, u6
 {
     let mut steps = Steps::<L>::new(blank);
     let mut pool = Pool::new(alloc);
-    let env = HeldEnv::new(alloc);
+    let env = Env::new(alloc);
     let mut w = Work {
         pool: &mut pool,
         env: &env,
@@ -42,26 +43,27 @@ fn charges_are_taken_while_any_are_left(rt: HostRuntime) {
 }
 
 // An axiom and an inductive type with one constructor, both of one type.
-fn some_entries(alloc: Global, pool: &mut Pool) -> Result<HeldEnv, OutOfMemory> {
-    let ty = pool.import(alloc, &Term::Sort(Sort::Prop))?;
-    let mut cons = HeldCons::new(alloc);
-    cons.push(HeldConstructor {
-        name: Name::new(alloc),
-        ty,
+fn some_entries(alloc: Global, pool: &mut Pool) -> Result<Env, EnvStop> {
+    let mut cons = Cons::new(alloc);
+    cons.push(Constructor {
+        name: Name::from_bytes(alloc, b"C")?,
+        ty: Term::Sort(Sort::Prop),
     })?;
-    let mut env = HeldEnv::new(alloc);
-    env.entries.push(Held::Axiom {
-        name: Name::new(alloc),
-        ty,
-    })?;
-    env.entries.push(Held::Inductive {
-        name: Name::new(alloc),
+    let axiom = Entry::Axiom {
+        name: Name::from_bytes(alloc, b"A")?,
+        ty: Term::Sort(Sort::Prop),
+    };
+    let inductive = Entry::Inductive {
+        name: Name::from_bytes(alloc, b"I")?,
         co: false,
         params: 0,
-        ty,
+        ty: Term::Sort(Sort::Prop),
         cons,
         large: true,
-    })?;
+    };
+    let mut env = Env::new(alloc);
+    env.add(alloc, pool, &axiom)?;
+    env.add(alloc, pool, &inductive)?;
     Ok(env)
 }
 
@@ -70,8 +72,6 @@ fn entries_are_found_by_number(rt: HostRuntime) -> Result<(), Fail> {
     let alloc = rt.alloc();
     let mut pool = Pool::new(alloc);
     let env = some_entries(alloc, &mut pool)?;
-    assert!(rt; env.is_held_in(&pool));
-    assert!(rt; !env.is_held_in(&Pool::new(alloc)));
     assert!(rt; matches!(entry(&env, 0), Some(Held::Axiom { .. })));
     assert!(rt; entry(&env, 2).is_none());
     assert!(rt; constructor_type(&env, 1, 0).is_some());

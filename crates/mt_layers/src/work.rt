@@ -1,7 +1,7 @@
 // The parts that a layer works on.
 ghost use Rattle.std.specs.Prelude.{◌≡◌, ◌+◌, ◌-◌, ◌<◌, Err, OnErr, OnOk};
 
-use crate::environment::HeldEnv;
+use mt_env::Env;
 use mt_pool::Pool;
 use mt_term::Stop;
 use mt_text::{Ledger, Steps};
@@ -10,7 +10,7 @@ use mt_text::{Ledger, Steps};
 #[derive(Drop)]
 pub struct Work<'a> {
     pub pool: &'a mut Pool,
-    pub env: &'a HeldEnv,
+    pub env: &'a Env,
     pub left: u64,
 }
 

@@ -11,7 +11,8 @@ ghost use Rattle.mt_term.specs.Trees.{Tree, End, Var};
 ghost use Rattle.mt_term.specs.WeakHead.{branch_at, branch_under, if_full, matched, params_of, taken, takes, unrolled};
 
 use crate::arguments::{Args, all_but, apply, count};
-use mt_layers::{HeldEnv, constructor_type, entry};
+use mt_env::Env;
+use mt_layers::{constructor_type, entry};
 use mt_pool::{BranchIds, Held, Node, Pool, TermId};
 use mt_term::{OutOfMemory, deeper};
 use std::alloc::Global;
@@ -37,7 +38,7 @@ fn has_products(pool: &Pool, t: TermId, n: usize) -> bool
 
 /// Whether so many are all the arguments of a constructor.
 #[tactic(auto, using(crate::proofs::Held::takes_rules))]
-fn takes(pool: &Pool, env: &HeldEnv, e: usize, k: usize, n: usize) -> bool
+fn takes(pool: &Pool, env: &Env, e: usize, k: usize, n: usize) -> bool
     requires { EnvBelow (length pool.now) env.now }
     ensures { result ≡ takes (constructor_at (environment_in pool.now env.now).entries e k) n }
 {
@@ -48,7 +49,7 @@ fn takes(pool: &Pool, env: &HeldEnv, e: usize, k: usize, n: usize) -> bool
 }
 
 /// The number of parameters of an inductive type.
-fn params(env: &HeldEnv, e: usize) -> usize
+fn params(env: &Env, e: usize) -> usize
     ensures { (p : List Tree) → result ≡ params_of (slice_get (environment_in p env.now).entries e) }
 {
     match entry(env, e) {
@@ -64,7 +65,7 @@ fn params(env: &HeldEnv, e: usize) -> usize
 #[tactic(auto, using(crate::proofs::Held::reduce_rules))]
 pub fn is_full(
     pool: &Pool,
-    env: &HeldEnv,
+    env: &Env,
     d: TermId,
     args: &Args,
     deep: usize,
@@ -142,7 +143,7 @@ fn branch_under(
 fn taken(
     pool: &mut Pool,
     alloc: Global,
-    env: &HeldEnv,
+    env: &Env,
     e: usize,
     d: TermId,
     args: &Args,
@@ -189,7 +190,7 @@ fn taken(
 #[tactic(auto, using(crate::proofs::Held::reduce_rules))]
 fn unrolled(
     pool: &mut Pool,
-    env: &HeldEnv,
+    env: &Env,
     d: TermId,
     args: &Args,
     deep: usize,
@@ -236,7 +237,7 @@ fn unrolled(
 pub fn matched(
     pool: &mut Pool,
     alloc: Global,
-    env: &HeldEnv,
+    env: &Env,
     e: usize,
     r: TermId,
     bs: BranchIds,

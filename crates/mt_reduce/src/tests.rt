@@ -2,7 +2,8 @@
 ghost use Rattle.std.specs.Prelude.{◌≡◌, ◌<◌};
 
 use crate::Reducer;
-use mt_layers::{HeldEnv, Whd, Work};
+use mt_env::Env;
+use mt_layers::{Whd, Work};
 use mt_pool::Pool;
 use mt_term::{Name, OutOfMemory, Sort, Stop, Term};
 use mt_text::{Ledger, PlainLedger, Steps};
@@ -11,7 +12,7 @@ use std::sync::ledger::Blank;
 use std::test::Fail;
 
 // Whether the weak head, or the normal form, of the first is the second, and its cost; nothing where the allowance is spent.
-#[tactic(auto, using(crate::proofs::Held::reduce_rules))]
+#[tactic(auto, using(crate::proofs::Held::reduce_rules, mt_layers::proofs::Kept::added_rules))]
 fn reduced<L: Ledger>(
     alloc: Global,
     whole: bool,
@@ -26,12 +27,9 @@ fn reduced<L: Ledger>(
 {
     let mut steps = Steps::<L>::new(blank);
     let mut pool = Pool::new(alloc);
-    let env = HeldEnv::new(alloc);
+    let env = Env::new(alloc);
     let t = pool.import(alloc, t)?;
     let expected = pool.import(alloc, expected)?;
-    if !env.is_held_in(&pool) {
-        return Err(OutOfMemory);
-    }
     let mut w = Work {
         pool: &mut pool,
         env: &env,

@@ -1,5 +1,5 @@
 use Rattle.mt_layers.proofs.Kept.{seen-entry, seen-below}
-use Rattle.mt_layers.proofs.environment.entry.Goals as goal
+use Rattle.mt_layers.proofs.entries.entry.Goals as goal
 
 pub returns-clause-tree : goal.returns-clause-tree
 returns-clause-tree c =

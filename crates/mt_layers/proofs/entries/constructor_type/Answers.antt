@@ -1,4 +1,4 @@
-use Rattle.mt_layers.proofs.environment.constructor_type.Goals as goal
+use Rattle.mt_layers.proofs.entries.constructor_type.Goals as goal
 
 pub returns-in-Some-Inductive-clause-held : goal.returns-in-Some-Inductive-clause-held
 returns-in-Some-Inductive-clause-held c = λ m h.
