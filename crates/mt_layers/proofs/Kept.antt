@@ -112,9 +112,13 @@ entries-then n (d ∷ hs) h b last = (b.0, entries-then n hs h b.1 last)
 
 pub added-below : (p q : List Tree) (old new : HeldEnvironment) (d : Declaration) → IsAdded old new q d → Kept p q → EnvBelow (length p) old → EnvBelow (length q) new
 unfolding EnvBelow
-added-below p q old new d added k b = subst (λ (v : HeldEnvironment). EntriesBelow (length q) v.entries) (sym added.1.0) (entries-then (length q) old.entries added.0 (env-below p q old k b) added.1.1.0)
+added-below p q old new d added k b = subst (λ (v : HeldEnvironment). EntriesBelow (length q) v.entries) (sym added.1) (entries-then (length q) old.entries added.0 (env-below p q old k b) added.2)
 
-pub ruleset added_rules = (none-below, added-below)
+pub entries-below : (n : ℕ) (env : HeldEnvironment) → EnvBelow n env → EntriesBelow n env.entries
+unfolding EnvBelow
+entries-below n env b = b
+
+pub ruleset added_rules = (none-below, added-below, entries-below)
 
 pub past_end : {A : Type 0} (xs : List A) (n : ℕ) → length xs ≤ n → slice_get xs n ≡ None
 past_end xs n l = slice_get_past xs n l
