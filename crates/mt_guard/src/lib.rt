@@ -1,25 +1,14 @@
-//! The guard of recursive and corecursive functions: tests on trees that compute, and their laws, which are the clauses of functions that do nothing.
+//! The guard of recursive and corecursive functions: whether an entry that is held is guarded, and the laws of the tests.
 #![tactic(auto)]
 
-ghost use Rattle.mt_guard.specs.GuardLaw.{CoGuardLaw, GuardLaw};
-
-/// The test of the guard is true exactly where a recursive function is guarded.
-pub fn guard_by_test()
-    ensures law { GuardLaw }
-{}
-
-/// The test of the guard is true exactly where a corecursive function is guarded.
-pub fn co_guard_by_test()
-    ensures law { CoGuardLaw }
-{}
-
+mod constructors;
+mod corecursion;
+mod guarding;
+mod laws;
+mod marks;
+mod recursion;
 #[cfg(test)]
-mod tests {
-    use super::*;
+mod tests;
 
-    #[test]
-    fn laws(_rt: HostRuntime) {
-        guard_by_test();
-        co_guard_by_test();
-    }
-}
+pub use guarding::guarded;
+pub use laws::{co_guard_by_test, guard_by_test};

@@ -1,5 +1,5 @@
 use Rattle.mt_guard.proofs.Corecursive.{co_guarded-decides}
-use Rattle.mt_guard.proofs.co_guard_by_test.Goals as goal
+use Rattle.mt_guard.proofs.laws.co_guard_by_test.Goals as goal
 
 pub returns : goal.returns
 returns c = record { law = co_guarded-decides }
