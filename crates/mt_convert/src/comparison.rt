@@ -1,0 +1,336 @@
+// The comparison of two terms.
+ghost use Rattle.std.specs.Prelude.{◌≡◌, ◌<◌, ◌+◌, length, List, IfErr, IfOk};
+ghost use Rattle.mt_layers.specs.Environments.{environment_in, EnvBelow};
+ghost use Rattle.mt_layers.specs.Meets.{Meets, IsNoRefusal};
+ghost use Rattle.mt_pool.specs.Region.{arms_at, branches_of, ids_of, tree_at, tree_in, trees_at, AllBelow, ArmsBelow, Below, Kept};
+ghost use Rattle.mt_term.proofs.ComparisonRules.{matches};
+ghost use Rattle.mt_term.specs.Comparison.{bodies, convert, heads, same_shapes, spines, terms};
+ghost use Rattle.mt_term.specs.Stores.{no_store};
+ghost use Rattle.mt_term.specs.Trees.{Tree};
+
+use crate::sorts::sorts_fit;
+use mt_layers::{Whd, Work, copy_node};
+use mt_pool::{BranchIds, Node, TermId, TermIds};
+use mt_term::{Mode, OutOfMemory, Stop, deeper};
+use mt_text::{Ledger, Steps};
+use std::alloc::Global;
+
+/// Whether the two are convertible in the mode. Of calls one inside the other it makes at most `deep`.
+#[cycle(convert)]
+#[tactic(auto, using(crate::proofs::Held::convert_held, mt_term::proofs::ComparisonRules::convert_rules))]
+pub fn convert<W: Whd, L: Ledger>(
+    h: &W,
+    alloc: Global,
+    w: &mut Work<'_>,
+    mode: Mode,
+    t: TermId,
+    u: TermId,
+    deep: usize,
+    steps: &mut Steps<L>,
+) -> Result<bool, Stop>
+    requires first { t.at < length w.old.pool.now }
+    requires second { u.at < length w.old.pool.now }
+    requires env_held { EnvBelow (length w.old.pool.now) w.old.env.now }
+    ensures same_pool { w.new.pool.ghost_name ≡ w.old.pool.ghost_name }
+    ensures env { w.new.env ≡ w.old.env }
+    ensures kept { Kept w.old.pool.now w.new.pool.now }
+    ensures outcome { Meets (λ b. b) (convert (environment_in w.old.pool.now w.old.env.now) no_store mode (tree_at w.old.pool.now t) (tree_at w.old.pool.now u) w.old.left) w.new.left result }
+    ensures unrefused { IfErr result (λ e. IsNoRefusal e) }
+    ensures cost { steps.new + w.new.left ≡ steps.old + w.old.left }
+{
+    let deep = deeper(deep)?;
+    w.charge(steps)?;
+    if w.pool.alike(t, u) {
+        return Ok(true);
+    }
+    let t = h.whd(alloc, w, t, steps)?;
+    let u = h.whd(alloc, w, u, steps)?;
+    same_heads_at(h, alloc, w, mode, t, u, deep, steps)
+}
+
+/// Whether two weak heads, by their ids, are convertible.
+#[cycle(convert)]
+#[tactic(auto, using(crate::proofs::Held::heads_held))]
+fn same_heads_at<W: Whd, L: Ledger>(
+    h: &W,
+    alloc: Global,
+    w: &mut Work<'_>,
+    mode: Mode,
+    t: TermId,
+    u: TermId,
+    deep: usize,
+    steps: &mut Steps<L>,
+) -> Result<bool, Stop>
+    requires first { t.at < length w.old.pool.now }
+    requires second { u.at < length w.old.pool.now }
+    requires env_held { EnvBelow (length w.old.pool.now) w.old.env.now }
+    ensures same_pool { w.new.pool.ghost_name ≡ w.old.pool.ghost_name }
+    ensures env { w.new.env ≡ w.old.env }
+    ensures kept { Kept w.old.pool.now w.new.pool.now }
+    ensures outcome { Meets (λ b. b) (heads (environment_in w.old.pool.now w.old.env.now) no_store mode (tree_at w.old.pool.now t) (tree_at w.old.pool.now u) w.old.left) w.new.left result }
+    ensures unrefused { IfErr result (λ e. IsNoRefusal e) }
+    ensures cost { steps.new + w.new.left ≡ steps.old + w.old.left }
+{
+    let deep = deeper(deep)?;
+    let head = copy_node(alloc, w.pool, t)?;
+    let other = copy_node(alloc, w.pool, u)?;
+    same_heads(h, alloc, w, mode, &head, &other, deep, steps)
+}
+
+/// Whether two weak heads are convertible.
+#[cycle(convert)]
+#[tactic(auto, using(crate::proofs::Held::convert_held, mt_term::proofs::ComparisonRules::heads_rules, mt_term::proofs::ComparisonApart::apart_rules))]
+fn same_heads<W: Whd, L: Ledger>(
+    h: &W,
+    alloc: Global,
+    w: &mut Work<'_>,
+    mode: Mode,
+    t: &Node,
+    u: &Node,
+    deep: usize,
+    steps: &mut Steps<L>,
+) -> Result<bool, Stop>
+    requires first { Below (length w.old.pool.now) t.now }
+    requires second { Below (length w.old.pool.now) u.now }
+    requires env_held { EnvBelow (length w.old.pool.now) w.old.env.now }
+    ensures same_pool { w.new.pool.ghost_name ≡ w.old.pool.ghost_name }
+    ensures env { w.new.env ≡ w.old.env }
+    ensures kept { Kept w.old.pool.now w.new.pool.now }
+    ensures outcome { Meets (λ b. b) (heads (environment_in w.old.pool.now w.old.env.now) no_store mode (tree_in w.old.pool.now t.now) (tree_in w.old.pool.now u.now) w.old.left) w.new.left result }
+    ensures unrefused { IfErr result (λ e. IsNoRefusal e) }
+    ensures cost { steps.new + w.new.left ≡ steps.old + w.old.left }
+{
+    let deep = deeper(deep)?;
+    match (t, u) {
+        (Node::Sort(s), Node::Sort(r)) => Ok(sorts_fit(w.env, mode, s, r)),
+        (Node::Prod(_, a, b), Node::Prod(_, c, d)) => {
+            if !convert(h, alloc, w, Mode::Equal, *a, *c, deep, steps)? {
+                return Ok(false);
+            }
+            convert(h, alloc, w, mode, *b, *d, deep, steps)
+        }
+        (Node::Lam(_, a, b), Node::Lam(_, c, d)) => {
+            if !convert(h, alloc, w, Mode::Equal, *a, *c, deep, steps)? {
+                return Ok(false);
+            }
+            convert(h, alloc, w, Mode::Equal, *b, *d, deep, steps)
+        }
+        (Node::Sort(_), _) => Ok(false),
+        (Node::Prod(..), _) => Ok(false),
+        (Node::Lam(..), _) => Ok(false),
+        _ => same_spine(h, alloc, w, t, u, deep, steps),
+    }
+}
+
+/// Whether two heads on arguments, by their ids, are the same head on convertible arguments.
+#[cycle(convert)]
+#[tactic(auto, using(crate::proofs::Held::spines_held))]
+fn same_spine_at<W: Whd, L: Ledger>(
+    h: &W,
+    alloc: Global,
+    w: &mut Work<'_>,
+    t: TermId,
+    u: TermId,
+    deep: usize,
+    steps: &mut Steps<L>,
+) -> Result<bool, Stop>
+    requires first { t.at < length w.old.pool.now }
+    requires second { u.at < length w.old.pool.now }
+    requires env_held { EnvBelow (length w.old.pool.now) w.old.env.now }
+    ensures same_pool { w.new.pool.ghost_name ≡ w.old.pool.ghost_name }
+    ensures env { w.new.env ≡ w.old.env }
+    ensures kept { Kept w.old.pool.now w.new.pool.now }
+    ensures outcome { Meets (λ b. b) (spines (environment_in w.old.pool.now w.old.env.now) no_store (tree_at w.old.pool.now t) (tree_at w.old.pool.now u) w.old.left) w.new.left result }
+    ensures unrefused { IfErr result (λ e. IsNoRefusal e) }
+    ensures cost { steps.new + w.new.left ≡ steps.old + w.old.left }
+{
+    let deep = deeper(deep)?;
+    let head = copy_node(alloc, w.pool, t)?;
+    let other = copy_node(alloc, w.pool, u)?;
+    same_spine(h, alloc, w, &head, &other, deep, steps)
+}
+
+/// Whether two heads on arguments are the same head on convertible arguments.
+#[cycle(convert)]
+#[tactic(auto, using(crate::proofs::Held::convert_held, crate::proofs::Apart::spine_rules))]
+fn same_spine<W: Whd, L: Ledger>(
+    h: &W,
+    alloc: Global,
+    w: &mut Work<'_>,
+    t: &Node,
+    u: &Node,
+    deep: usize,
+    steps: &mut Steps<L>,
+) -> Result<bool, Stop>
+    requires first { Below (length w.old.pool.now) t.now }
+    requires second { Below (length w.old.pool.now) u.now }
+    requires env_held { EnvBelow (length w.old.pool.now) w.old.env.now }
+    ensures same_pool { w.new.pool.ghost_name ≡ w.old.pool.ghost_name }
+    ensures env { w.new.env ≡ w.old.env }
+    ensures kept { Kept w.old.pool.now w.new.pool.now }
+    ensures outcome { Meets (λ b. b) (spines (environment_in w.old.pool.now w.old.env.now) no_store (tree_in w.old.pool.now t.now) (tree_in w.old.pool.now u.now) w.old.left) w.new.left result }
+    ensures unrefused { IfErr result (λ e. IsNoRefusal e) }
+    ensures cost { steps.new + w.new.left ≡ steps.old + w.old.left }
+{
+    let deep = deeper(deep)?;
+    match (t, u) {
+        (Node::Var(i), Node::Var(j)) => Ok(*i == *j),
+        (Node::Const(c), Node::Const(d)) => Ok(*c == *d),
+        (Node::Ind(e), Node::Ind(d)) => Ok(*e == *d),
+        (Node::Con(e, k), Node::Con(d, j)) => Ok(*e == *d && *k == *j),
+        (Node::App(f, a), Node::App(g, b)) => {
+            if !same_spine_at(h, alloc, w, *f, *g, deep, steps)? {
+                return Ok(false);
+            }
+            convert(h, alloc, w, Mode::Equal, *a, *b, deep, steps)
+        }
+        (Node::Meta(n, s), Node::Meta(m, r)) => {
+            if *n != *m {
+                return Ok(false);
+            }
+            same_terms(h, alloc, w, s, r, deep, steps)
+        }
+        (Node::Match(e, r, c, bs), Node::Match(d, p, t, cs)) => {
+            if *e != *d || !same_shapes(bs, cs, deep)? {
+                return Ok(false);
+            }
+            if !convert(h, alloc, w, Mode::Equal, *r, *p, deep, steps)? {
+                return Ok(false);
+            }
+            same_matched(h, alloc, w, *c, *t, bs, cs, deep, steps)
+        }
+        (Node::Var(_), _) => Ok(false),
+        (Node::Const(_), _) => Ok(false),
+        (Node::Ind(_), _) => Ok(false),
+        (Node::Con(..), _) => Ok(false),
+        (Node::App(..), _) => Ok(false),
+        (Node::Meta(..), _) => Ok(false),
+        (Node::Match(..), _) => Ok(false),
+        (Node::Sort(_), _) => Ok(false),
+        (Node::Prod(..), _) => Ok(false),
+        (Node::Lam(..), _) => Ok(false),
+    }
+}
+
+/// Whether the matched terms of two matches, and the bodies of their branches, are convertible.
+#[cycle(convert)]
+#[tactic(auto, using(crate::proofs::Held::convert_held, crate::proofs::Apart::spine_rules))]
+fn same_matched<W: Whd, L: Ledger>(
+    h: &W,
+    alloc: Global,
+    w: &mut Work<'_>,
+    c: TermId,
+    t: TermId,
+    bs: &BranchIds,
+    cs: &BranchIds,
+    deep: usize,
+    steps: &mut Steps<L>,
+) -> Result<bool, Stop>
+    requires first { c.at < length w.old.pool.now }
+    requires second { t.at < length w.old.pool.now }
+    requires first_held { ArmsBelow (length w.old.pool.now) (branches_of bs.now) }
+    requires second_held { ArmsBelow (length w.old.pool.now) (branches_of cs.now) }
+    requires env_held { EnvBelow (length w.old.pool.now) w.old.env.now }
+    ensures same_pool { w.new.pool.ghost_name ≡ w.old.pool.ghost_name }
+    ensures env { w.new.env ≡ w.old.env }
+    ensures kept { Kept w.old.pool.now w.new.pool.now }
+    ensures outcome { Meets (λ b. b) (matches (environment_in w.old.pool.now w.old.env.now) no_store (tree_at w.old.pool.now c) (tree_at w.old.pool.now t) (arms_at w.old.pool.now (branches_of bs.now)) (arms_at w.old.pool.now (branches_of cs.now)) w.old.left) w.new.left result }
+    ensures unrefused { IfErr result (λ e. IsNoRefusal e) }
+    ensures cost { steps.new + w.new.left ≡ steps.old + w.old.left }
+{
+    let deep = deeper(deep)?;
+    if !convert(h, alloc, w, Mode::Equal, c, t, deep, steps)? {
+        return Ok(false);
+    }
+    same_bodies(h, alloc, w, bs, cs, deep, steps)
+}
+
+/// Whether the terms of two lists are convertible, pairwise.
+#[cycle(convert)]
+#[tactic(auto, using(crate::proofs::Held::convert_held, mt_term::proofs::ComparisonRules::terms_rules))]
+fn same_terms<W: Whd, L: Ledger>(
+    h: &W,
+    alloc: Global,
+    w: &mut Work<'_>,
+    s: &TermIds,
+    r: &TermIds,
+    deep: usize,
+    steps: &mut Steps<L>,
+) -> Result<bool, Stop>
+    requires first { AllBelow (length w.old.pool.now) (ids_of s.now) }
+    requires second { AllBelow (length w.old.pool.now) (ids_of r.now) }
+    requires env_held { EnvBelow (length w.old.pool.now) w.old.env.now }
+    ensures same_pool { w.new.pool.ghost_name ≡ w.old.pool.ghost_name }
+    ensures env { w.new.env ≡ w.old.env }
+    ensures kept { Kept w.old.pool.now w.new.pool.now }
+    ensures outcome { Meets (λ b. b) (terms (environment_in w.old.pool.now w.old.env.now) no_store (trees_at w.old.pool.now (ids_of s.now)) (trees_at w.old.pool.now (ids_of r.now)) w.old.left) w.new.left result }
+    ensures unrefused { IfErr result (λ e. IsNoRefusal e) }
+    ensures cost { steps.new + w.new.left ≡ steps.old + w.old.left }
+{
+    let deep = deeper(deep)?;
+    match (s, r) {
+        (TermIds::End, TermIds::End) => Ok(true),
+        (TermIds::Item(t, s), TermIds::Item(u, r)) => {
+            if !convert(h, alloc, w, Mode::Equal, *t, *u, deep, steps)? {
+                return Ok(false);
+            }
+            same_terms(h, alloc, w, s, r, deep, steps)
+        }
+        (TermIds::End, TermIds::Item(..)) => Ok(false),
+        (TermIds::Item(..), TermIds::End) => Ok(false),
+    }
+}
+
+/// Whether the bodies of two lists of branches are convertible, pairwise.
+#[cycle(convert)]
+#[tactic(auto, using(crate::proofs::Held::convert_held, mt_term::proofs::ComparisonRules::bodies_rules))]
+fn same_bodies<W: Whd, L: Ledger>(
+    h: &W,
+    alloc: Global,
+    w: &mut Work<'_>,
+    bs: &BranchIds,
+    cs: &BranchIds,
+    deep: usize,
+    steps: &mut Steps<L>,
+) -> Result<bool, Stop>
+    requires first { ArmsBelow (length w.old.pool.now) (branches_of bs.now) }
+    requires second { ArmsBelow (length w.old.pool.now) (branches_of cs.now) }
+    requires env_held { EnvBelow (length w.old.pool.now) w.old.env.now }
+    ensures same_pool { w.new.pool.ghost_name ≡ w.old.pool.ghost_name }
+    ensures env { w.new.env ≡ w.old.env }
+    ensures kept { Kept w.old.pool.now w.new.pool.now }
+    ensures outcome { Meets (λ b. b) (bodies (environment_in w.old.pool.now w.old.env.now) no_store (arms_at w.old.pool.now (branches_of bs.now)) (arms_at w.old.pool.now (branches_of cs.now)) w.old.left) w.new.left result }
+    ensures unrefused { IfErr result (λ e. IsNoRefusal e) }
+    ensures cost { steps.new + w.new.left ≡ steps.old + w.old.left }
+{
+    let deep = deeper(deep)?;
+    match (bs, cs) {
+        (BranchIds::End, BranchIds::End) => Ok(true),
+        (BranchIds::Item(_, b, bs), BranchIds::Item(_, c, cs)) => {
+            if !convert(h, alloc, w, Mode::Equal, *b, *c, deep, steps)? {
+                return Ok(false);
+            }
+            same_bodies(h, alloc, w, bs, cs, deep, steps)
+        }
+        (BranchIds::End, BranchIds::Item(..)) => Ok(false),
+        (BranchIds::Item(..), BranchIds::End) => Ok(false),
+    }
+}
+
+/// Whether there are as many branches, with as many names in each.
+fn same_shapes(bs: &BranchIds, cs: &BranchIds, deep: usize) -> Result<bool, OutOfMemory>
+    ensures { IfOk result (λ b. (p : List Tree) → b ≡ same_shapes (arms_at p (branches_of bs.now)) (arms_at p (branches_of cs.now))) }
+{
+    let deep = deeper(deep)?;
+    match (bs, cs) {
+        (BranchIds::End, BranchIds::End) => Ok(true),
+        (BranchIds::Item(xs, _, bs), BranchIds::Item(ys, _, cs)) => {
+            if xs.len() != ys.len() {
+                return Ok(false);
+            }
+            same_shapes(bs, cs, deep)
+        }
+        (BranchIds::End, BranchIds::Item(..)) => Ok(false),
+        (BranchIds::Item(..), BranchIds::End) => Ok(false),
+    }
+}
