@@ -1,8 +1,7 @@
 -- The test of an entry is the relation.
 use Rattle.std.proofs.Common.{ℕ, ◌≡◌, ◌∙◌, sym, Bool, true, false, IsTrue, ◌↔◌}
-use Rattle.std.specs.Bool.{Decides}
 use Rattle.mt_term.proofs.AlikeLaws.{never}
-use Rattle.mt_term.specs.Declarations.{Declaration, Axiom, Definition, Inductive, Recursive, Environment}
+use Rattle.mt_term.specs.Declarations.{Declaration, Recursive, Environment}
 use Rattle.mt_guard.specs.Entries.{guards_entry, GuardedEntry}
 use Rattle.mt_guard.proofs.Deciding.{guarded-decides}
 use Rattle.mt_guard.proofs.Corecursive.{co_guarded-decides}

@@ -1,12 +1,12 @@
 -- What is held stays held as a pool grows.
-use Rattle.std.proofs.Common.{ℕ, suc, refl, ◌≤◌, ◌<◌, ◌≡◌, List, [], ◌∷◌, ◌++◌, length, sym, subst, ap, arith}
+use Rattle.std.proofs.Common.{ℕ, suc, refl, ◌≤◌, ◌≡◌, List, [], ◌∷◌, length, sym, subst, ap, arith}
 use Rattle.mt_term.specs.Trees.{Tree}
 use Rattle.mt_term.specs.Declarations.{Declaration, Axiom, Definition, Inductive, Recursive}
 use Rattle.mt_pool.specs.Region.{Kept}
 use Rattle.mt_pool.specs.declared.held.HeldConstructor.{HeldConstructor}
 use Rattle.mt_pool.specs.declared.held.Held.{Held}
 use Rattle.mt_pool.specs.declared.held.Held.TheVariants.{Axiom as HeldAxiom, Definition as HeldDefinition, Inductive as HeldInductive, Recursive as HeldRecursive}
-use Rattle.mt_pool.specs.HeldOf.{constructor_in, constructors_in, declaration_in, ConstructorsBelow, HeldBelow}
+use Rattle.mt_pool.specs.HeldOf.{constructors_in, declaration_in, ConstructorsBelow, HeldBelow}
 use Rattle.mt_pool.proofs.Region.{length-kept, tree-kept}
 use Rattle.mt_env.specs.Environments.{HeldEnvironment, declarations_in, environment_in, no_entries, EntriesBelow, IsAdded}
 

@@ -1,7 +1,7 @@
 -- The arguments of a constructor by what is looked up of it.
-use Rattle.std.proofs.Common.{ℕ, ◌≡◌, Bool, true, false, List, Option, Some, None, slice_get, refl}
+use Rattle.std.proofs.Common.{ℕ, ◌≡◌, true, false, List, Option, Some, None, slice_get, refl}
 use Rattle.mt_term.specs.Trees.{Tree}
-use Rattle.mt_term.specs.Declarations.{Constructor, Declaration, Axiom, Definition, Inductive, Recursive, Environment}
+use Rattle.mt_term.specs.Declarations.{Constructor, Declaration, Axiom, Definition, Inductive, Recursive}
 use Rattle.mt_guard.specs.Corecursive.{Judged, constructor_fits, entry_fits}
 use Rattle.mt_guard.specs.Lookups.{making_of, made_of}
 use Rattle.mt_guard.specs.Judging.{making_fits}

@@ -1,12 +1,12 @@
 -- What is found in an environment whose entries are held in a pool.
-use Rattle.std.proofs.Common.{ℕ, zero, suc, ◌<◌, ◌≤◌, length, ◌≡◌, List, [], ◌∷◌, Option, Some, None, slice_get, option_map, sym, ap, ◌∙◌, subst, arith}
+use Rattle.std.proofs.Common.{ℕ, zero, suc, ◌<◌, ◌≤◌, length, ◌≡◌, List, [], ◌∷◌, Some, None, slice_get, option_map, sym, ap, ◌∙◌, subst}
 use Rattle.std.proofs.lemmas.Option.{slice_get-map, slice_get_past}
 use Rattle.mt_term.specs.Trees.{Tree}
 use Rattle.mt_pool.specs.declared.held.Held.{Held}
 use Rattle.mt_pool.specs.declared.held.HeldConstructor.{HeldConstructor}
 use Rattle.mt_pool.specs.HeldOf.{constructor_in, constructors_in, ConstructorsBelow, declaration_in, HeldBelow}
 use Rattle.mt_guard.specs.Lookups.{making_of}
-use Rattle.mt_env.specs.Environments.{HeldEnvironment, declarations_in, EntriesBelow}
+use Rattle.mt_env.specs.Environments.{declarations_in, EntriesBelow}
 
 pub entry-none : (p : List Tree) (es : List Held) (n : ℕ) → None ≡ slice_get es n → slice_get (declarations_in p es) n ≡ None
 entry-none p es n e = slice_get-map (declaration_in p) es n ∙ ap (option_map (declaration_in p)) (sym e)

@@ -1,8 +1,8 @@
 -- Marks of variables one by one, and of the variables of a branch.
-use Rattle.std.proofs.Common.{Bool, ℕ, zero, suc, ◌+◌, ◌-◌, ◌<◌, ◌≤◌, ◌≡◌, List, [], ◌∷◌, length, Option, Some, None, slice_get, refl, sym, ap, ◌∙◌, subst, arith}
-use Rattle.mt_term.specs.Trees.{Tree, Bytes, Var, Sort, Prod, Lam, App, Const, Ind, Con, Match, Meta}
+use Rattle.std.proofs.Common.{Bool, ℕ, zero, suc, ◌+◌, ◌-◌, ◌<◌, ◌≤◌, ◌≡◌, List, [], ◌∷◌, length, Option, Some, None, slice_get, refl, ap, ◌∙◌, arith}
+use Rattle.mt_term.specs.Trees.{Tree, Bytes, Prod}
 use Rattle.mt_term.specs.Guard.{Mark, Other, others}
-use Rattle.mt_term.specs.Declarations.{Declaration, Axiom, Definition, Inductive, Recursive, Constructor, Environment}
+use Rattle.mt_term.specs.Declarations.{Declaration, Inductive, Constructor, Environment}
 use Rattle.mt_term.specs.Contraction.{products}
 use Rattle.mt_positivity.specs.Deciding.{is_recursive}
 use Rattle.mt_guard.specs.Deciding.{marks, mark_by, constructor_marks, entry_marks, branch_marks}
