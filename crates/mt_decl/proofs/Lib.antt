@@ -6,3 +6,11 @@ pub mod Constructors
 pub mod Sound
 pub mod Allowance
 pub mod Names
+pub mod Sequences
+pub mod FrontRules
+pub mod JudgingRules
+pub mod FittingRules
+pub mod ConstructingRules
+pub mod GrowingRules
+pub mod EndRules
+pub mod UnitRules

@@ -6,3 +6,10 @@ pub mod EntryLaws
 pub mod Examples
 pub mod FunctionExamples
 pub mod TelescopeOf
+pub mod Constructing
+pub mod Ends
+pub mod Fitting
+pub mod Fronts
+pub mod Growing
+pub mod Judging
+pub mod Units

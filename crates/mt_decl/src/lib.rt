@@ -1,9 +1,17 @@
-//! The entries that units declare: terms closed over a context; and functions that do nothing, whose clauses are the laws.
+//! The entries that units declare; and functions that do nothing, whose clauses are the laws.
 #![tactic(auto)]
 
 ghost use Rattle.mt_decl.specs.EntryLaws.{DeclaredAllowanceLaw, DeclaredLaw, DeclaredNamesLaw};
 
+mod arguments;
+mod constructing;
 mod declaring;
+mod entering;
+mod families;
+mod freshness;
+mod functions;
+mod groups;
+mod judging;
 mod telescopes;
 #[cfg(test)]
 mod tests;

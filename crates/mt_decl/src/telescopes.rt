@@ -1,5 +1,5 @@
 // Terms closed over a context.
-ghost use Rattle.std.specs.Prelude.{◌≡◌, IfOk};
+ghost use Rattle.std.specs.Prelude.{◌≡◌, length, IfOk};
 ghost use Rattle.mt_decl.specs.TelescopeOf.{hypotheses_of};
 ghost use Rattle.mt_decl.specs.Telescopes.{abstracted, generalized, result_sort};
 ghost use Rattle.mt_term.specs.TreeOf.{tree_of};
@@ -72,5 +72,16 @@ pub fn result_sort(t: &Term, deep: usize) -> Result<Option<Sort>, OutOfMemory>
         | Term::Con(_, _)
         | Term::Match(_, _, _, _)
         | Term::Meta(_, _) => Ok(None),
+    }
+}
+
+/// How many names a telescope has.
+pub fn count(telescope: &Telescope<'_>, deep: usize) -> Result<usize, OutOfMemory>
+    ensures { IfOk result (λ n. n ≡ length (hypotheses_of telescope.now)) }
+{
+    let deep = deeper(deep)?;
+    match telescope {
+        Telescope::Empty => Ok(0),
+        Telescope::More(_, _, rest) => count(rest, deep)?.checked_add(1).ok_or(OutOfMemory),
     }
 }

@@ -14,5 +14,5 @@ mod tests;
 pub use built::is_built;
 pub use meanings::Meaning;
 pub use resolving::resolve;
-pub use scopes::Scope;
+pub use scopes::{Scope, place_in};
 pub use table::Table;
