@@ -14,3 +14,4 @@ pub mod ConstructingRules
 pub mod GrowingRules
 pub mod EndRules
 pub mod UnitRules
+pub mod FunctionRules

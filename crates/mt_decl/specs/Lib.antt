@@ -13,3 +13,4 @@ pub mod Fronts
 pub mod Growing
 pub mod Judging
 pub mod Units
+pub mod Functions

@@ -61,11 +61,11 @@ pub fn declare_plain<L: Ledger>(
     ensures names { names.new ≡ names.old }
     ensures answer { DeclaresFrom declaration_of (declared_entry (environment_of env.old) unit.now.span.start (kind_of unit.now.kind) allowance) allowance steps.old steps.new result }
 {
-    let _held = held;
     let mut left = allowance;
     declare_unit(
         alloc,
         pool,
+        held,
         env,
         names,
         unit.span.start,
@@ -80,6 +80,7 @@ pub fn declare_plain<L: Ledger>(
 fn declare_unit<L: Ledger>(
     alloc: Global,
     pool: &mut Pool,
+    held: &Env,
     env: &mut PlainEnv,
     names: &mut Table,
     start: usize,
@@ -88,6 +89,8 @@ fn declare_unit<L: Ledger>(
     steps: &mut Steps<L>,
 ) -> Result<Entry, Halt>
     requires names { AreNamesOf names.old env.old.entries }
+    requires held { environment_in pool.old held.now ≡ environment_of env.old }
+    requires below { EntriesBelow (length pool.old) held.now.entries }
     ensures kept { Kept pool.old pool.new }
     ensures env { environment_of env.new ≡ environment_of env.old }
     ensures names { names.new ≡ names.old }
@@ -102,10 +105,10 @@ fn declare_unit<L: Ledger>(
             declare_definition(alloc, env, names, start, name, ty, body, left, steps)
         }
         UnitKind::Inductive { co, groups, types } => declare_types(
-            alloc, pool, env, names, start, *co, groups, types, left, steps,
+            alloc, pool, held, env, names, start, *co, groups, types, left, steps,
         ),
         UnitKind::Recursive { co, functions } => declare_functions(
-            alloc, pool, env, names, start, *co, functions, left, steps,
+            alloc, pool, held, env, names, start, *co, functions, left, steps,
         ),
         UnitKind::Constraint(_, _)
         | UnitKind::Definition(_, None, _)
@@ -224,6 +227,7 @@ fn judge_body<L: Ledger>(
 fn declare_types<L: Ledger>(
     alloc: Global,
     pool: &mut Pool,
+    held: &Env,
     env: &mut PlainEnv,
     names: &mut Table,
     start: usize,
@@ -234,6 +238,8 @@ fn declare_types<L: Ledger>(
     steps: &mut Steps<L>,
 ) -> Result<Entry, Halt>
     requires names { AreNamesOf names.old env.old.entries }
+    requires held { environment_in pool.old held.now ≡ environment_of env.old }
+    requires below { EntriesBelow (length pool.old) held.now.entries }
     ensures kept { Kept pool.old pool.new }
     ensures env { environment_of env.new ≡ environment_of env.old }
     ensures names { names.new ≡ names.old }
@@ -252,6 +258,7 @@ fn declare_types<L: Ledger>(
             with_groups(
                 alloc,
                 pool,
+                held,
                 env,
                 names,
                 start,
@@ -273,6 +280,7 @@ fn declare_types<L: Ledger>(
 fn declare_functions<L: Ledger>(
     alloc: Global,
     pool: &mut Pool,
+    held: &Env,
     env: &mut PlainEnv,
     names: &mut Table,
     start: usize,
@@ -282,6 +290,8 @@ fn declare_functions<L: Ledger>(
     steps: &mut Steps<L>,
 ) -> Result<Entry, Halt>
     requires names { AreNamesOf names.old env.old.entries }
+    requires held { environment_in pool.old held.now ≡ environment_of env.old }
+    requires below { EntriesBelow (length pool.old) held.now.entries }
     ensures kept { Kept pool.old pool.new }
     ensures env { environment_of env.new ≡ environment_of env.old }
     ensures names { names.new ≡ names.old }
@@ -297,11 +307,15 @@ fn declare_functions<L: Ledger>(
         Some(function) => match (co, &function.on) {
             (false, Some(on)) => {
                 let end = End::Recursive(function, on);
-                declare_function(alloc, pool, env, names, start, function, end, left, steps)
+                declare_function(
+                    alloc, pool, held, env, names, start, function, end, left, steps,
+                )
             }
             (true, None) => {
                 let end = End::Corecursive(function);
-                declare_function(alloc, pool, env, names, start, function, end, left, steps)
+                declare_function(
+                    alloc, pool, held, env, names, start, function, end, left, steps,
+                )
             }
             (false, None) | (true, Some(_)) => Err(not_here(start)),
         },
@@ -313,6 +327,7 @@ fn declare_functions<L: Ledger>(
 fn declare_function<L: Ledger>(
     alloc: Global,
     pool: &mut Pool,
+    held: &Env,
     env: &mut PlainEnv,
     names: &mut Table,
     start: usize,
@@ -322,6 +337,8 @@ fn declare_function<L: Ledger>(
     steps: &mut Steps<L>,
 ) -> Result<Entry, Halt>
     requires names { AreNamesOf names.old env.old.entries }
+    requires held { environment_in pool.old held.now ≡ environment_of env.old }
+    requires below { EntriesBelow (length pool.old) held.now.entries }
     ensures kept { Kept pool.old pool.new }
     ensures env { environment_of env.new ≡ environment_of env.old }
     ensures names { names.new ≡ names.old }
@@ -333,6 +350,7 @@ fn declare_function<L: Ledger>(
     with_groups(
         alloc,
         pool,
+        held,
         env,
         names,
         start,

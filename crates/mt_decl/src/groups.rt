@@ -1,9 +1,10 @@
 // The binders of a unit, and what comes after them.
-ghost use Rattle.std.specs.Prelude.{◌≡◌, ◌+◌, drop};
+ghost use Rattle.std.specs.Prelude.{◌≡◌, ◌+◌, drop, length};
 ghost use Rattle.mt_decl.specs.Declares.{Declares};
 ghost use Rattle.mt_decl.specs.Ends.{ended, walked};
 ghost use Rattle.mt_decl.specs.TelescopeOf.{hypotheses_of};
 ghost use Rattle.mt_decl.specs.Telescopes.{names_of};
+ghost use Rattle.mt_env.specs.Environments.{EntriesBelow, environment_in};
 ghost use Rattle.mt_pool.specs.Region.{Kept};
 ghost use Rattle.mt_resolver.specs.ScopeOf as scopes;
 ghost use Rattle.mt_resolver.specs.TableOf.{AreNamesOf};
@@ -13,6 +14,7 @@ ghost use Rattle.mt_term.specs.EnvironmentOf.{environment_of};
 use crate::families::declare_type;
 use crate::functions::{declare_corecursive, declare_recursive};
 use crate::telescopes::Telescope;
+use mt_env::Env;
 use mt_pool::Pool;
 use mt_resolver::{Scope, Table, resolve};
 use mt_term::{Entry, Halt, Name, OutOfMemory, PlainEnv, deeper};
@@ -38,6 +40,7 @@ pub enum End<'a> {
 pub fn with_groups<L: Ledger>(
     alloc: Global,
     pool: &mut Pool,
+    held: &Env,
     env: &mut PlainEnv,
     names: &mut Table,
     start: usize,
@@ -51,6 +54,8 @@ pub fn with_groups<L: Ledger>(
     steps: &mut Steps<L>,
 ) -> Result<Entry, Halt>
     requires names { AreNamesOf names.old env.old.entries }
+    requires held { environment_in pool.old held.now ≡ environment_of env.old }
+    requires below { EntriesBelow (length pool.old) held.now.entries }
     requires scope { scopes.names_of scope.now ≡ names_of (hypotheses_of binders.now) }
     ensures kept { Kept pool.old pool.new }
     ensures env { environment_of env.new ≡ environment_of env.old }
@@ -62,7 +67,7 @@ pub fn with_groups<L: Ledger>(
     let deep = deeper(deep)?;
     match groups.get(from) {
         None => declare_end(
-            alloc, pool, env, names, start, scope, binders, end, left, steps,
+            alloc, pool, held, env, names, start, scope, binders, end, left, steps,
         ),
         Some(group) => {
             let next = from.checked_add(1).ok_or(OutOfMemory)?;
@@ -70,8 +75,8 @@ pub fn with_groups<L: Ledger>(
             let scope = Scope::More(&group.name, &*scope);
             let binders = Telescope::More(&group.name, &ty, &*binders);
             with_groups(
-                alloc, pool, env, names, start, &scope, &binders, groups, next, end, left, deep,
-                steps,
+                alloc, pool, held, env, names, start, &scope, &binders, groups, next, end, left,
+                deep, steps,
             )
         }
     }
@@ -81,6 +86,7 @@ pub fn with_groups<L: Ledger>(
 fn declare_end<L: Ledger>(
     alloc: Global,
     pool: &mut Pool,
+    held: &Env,
     env: &mut PlainEnv,
     names: &mut Table,
     start: usize,
@@ -91,6 +97,8 @@ fn declare_end<L: Ledger>(
     steps: &mut Steps<L>,
 ) -> Result<Entry, Halt>
     requires names { AreNamesOf names.old env.old.entries }
+    requires held { environment_in pool.old held.now ≡ environment_of env.old }
+    requires below { EntriesBelow (length pool.old) held.now.entries }
     requires scope { scopes.names_of scope.now ≡ names_of (hypotheses_of binders.now) }
     ensures kept { Kept pool.old pool.new }
     ensures env { environment_of env.new ≡ environment_of env.old }
@@ -103,10 +111,10 @@ fn declare_end<L: Ledger>(
             alloc, pool, env, names, start, scope, binders, co, ty, left, steps,
         ),
         End::Recursive(function, on) => declare_recursive(
-            alloc, pool, env, names, start, scope, binders, function, on, left, steps,
+            alloc, pool, held, env, names, start, scope, binders, function, on, left, steps,
         ),
         End::Corecursive(function) => declare_corecursive(
-            alloc, pool, env, names, start, scope, binders, function, left, steps,
+            alloc, pool, held, env, names, start, scope, binders, function, left, steps,
         ),
     }
 }
