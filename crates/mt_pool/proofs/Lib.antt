@@ -1,3 +1,4 @@
 mod Built
+mod Placed
 pub mod Region
 mod Replaced

@@ -1,4 +1,4 @@
 pub mod Region
 pub mod HeldOf
 pub mod Replaced
-pub mod Sizes
+pub mod Depths

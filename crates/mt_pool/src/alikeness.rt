@@ -10,13 +10,19 @@ use mt_term::{Atom, Sort};
 fn have_same_atoms(a: &[Atom], b: &[Atom]) -> bool
     ensures { result ≡ same_atoms a.now b.now }
 {
-    match a {
-        [] => b.is_empty(),
-        [x, xs @ ..] => match b {
-            [] => false,
-            [y, ys @ ..] => x.name == y.name && x.offset == y.offset && have_same_atoms(xs, ys),
-        },
+    let mut left = a;
+    let mut right = b;
+    while let [x, xs @ ..] = left {
+        let [y, ys @ ..] = right else {
+            return false;
+        };
+        if x.name != y.name || x.offset != y.offset {
+            return false;
+        }
+        left = xs;
+        right = ys;
     }
+    right.is_empty()
 }
 
 fn are_same_sort(s: &Sort, r: &Sort) -> bool

@@ -124,3 +124,53 @@ pub enum Held {
         made: bool,
     },
 }
+
+impl Clone for Held {
+    fn clone(&self) -> Result<Held, OutOfMemory>
+        ensures { IfOk result (λ h. h ≡ self.now) }
+    {
+        match self {
+            Held::Axiom { name, ty } => Ok(Held::Axiom {
+                name: name.clone()?,
+                ty: *ty,
+            }),
+            Held::Definition { name, ty, body } => Ok(Held::Definition {
+                name: name.clone()?,
+                ty: *ty,
+                body: *body,
+            }),
+            Held::Inductive {
+                name,
+                co,
+                params,
+                ty,
+                cons,
+                large,
+            } => Ok(Held::Inductive {
+                name: name.clone()?,
+                co: *co,
+                params: *params,
+                ty: *ty,
+                cons: cons.clone()?,
+                large: *large,
+            }),
+            Held::Recursive {
+                name,
+                co,
+                binders,
+                place,
+                ty,
+                body,
+                made,
+            } => Ok(Held::Recursive {
+                name: name.clone()?,
+                co: *co,
+                binders: *binders,
+                place: *place,
+                ty: *ty,
+                body: *body,
+                made: *made,
+            }),
+        }
+    }
+}

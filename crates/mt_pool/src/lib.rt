@@ -4,6 +4,7 @@
 mod alikeness;
 mod contexts;
 mod copies;
+mod depths;
 mod exports;
 mod held;
 mod imports;

@@ -35,3 +35,10 @@ pub enum Node {
     Match(usize, TermId, TermId, BranchIds),
     Meta(usize, TermIds),
 }
+
+// A node, and beside it the depth of its tree.
+#[derive(Drop)]
+pub(crate) struct Placed {
+    pub(crate) node: Node,
+    pub(crate) depth: usize,
+}

@@ -1,16 +1,17 @@
 // The pool.
 ghost use Rattle.std.specs.Prelude.{◌≡◌, ◌<◌, ◌≤◌, [], length, take, IfOk, OnOk, OnErr};
+ghost use Rattle.mt_term.specs.Depth.{depth as depth_of};
 ghost use Rattle.mt_pool.specs.Region.{tree_at, tree_in, Below, Kept, Names};
 
-use crate::nodes::{Node, TermId};
+use crate::nodes::{Node, Placed, TermId};
 use mt_term::OutOfMemory;
 use std::alloc::{AllocFailed, Global};
 use std::marker::Model;
 
-/// Terms, each built of those before it, seen as the list of the trees that their ids name.
+/// Terms, each built of those before it, seen as the list of the trees that their ids name. No tree is deeper than `MOST_DEEP`.
 #[derive(Drop)]
 pub struct Pool {
-    nodes: Vec<Node>,
+    nodes: Vec<Placed>,
 }
 
 impl Model for Pool {
@@ -18,15 +19,16 @@ impl Model for Pool {
     ghost use Rattle.std.specs.Coded.{coded_list};
     ghost use Rattle.mt_term.specs.Trees.{Tree};
     ghost use Rattle.mt_term.specs.TreeCode.{tree_code};
-    ghost use Rattle.mt_pool.specs.Region.{built, InOrder};
+    ghost use Rattle.mt_pool.specs.Region.{built};
+    ghost use Rattle.mt_pool.specs.Depths.{nodes_of, IsPlaced};
 
     ghost Value = { List Tree };
 
     ghost coded = { coded_list tree_code };
 
-    ghost view = { λ p. built [] p.nodes.items };
+    ghost view = { λ p. built [] (nodes_of p.nodes.items) };
 
-    ghost invariant = { λ p. InOrder 0 p.nodes.items };
+    ghost invariant = { λ p. IsPlaced p.nodes.items };
 }
 
 impl Pool {
@@ -45,10 +47,19 @@ impl Pool {
         ensures tree { tree_at self.now id ≡ tree_in self.now result.now }
         ensures below { Below id.at result.now }
     {
-        &self.nodes[id.at]
+        &self.nodes[id.at].node
     }
 
-    /// Appends a node, which gets a new id.
+    /// How deep the tree of an id is.
+    pub fn depth(&self, id: TermId) -> usize
+        requires { id.at < length self.now }
+        ensures depth { result ≡ depth_of (tree_at self.now id) }
+        ensures most { result ≤ 2000 }
+    {
+        self.nodes[id.at].depth
+    }
+
+    /// Appends a node, which gets a new id. Where its tree is deeper than `MOST_DEEP`, memory is wanting.
     #[tactic(auto, using(crate::proofs::Region::kept))]
     pub fn put(&mut self, node: Node) -> Result<TermId, OutOfMemory>
         requires { Below (length self.old) node }
@@ -57,10 +68,12 @@ impl Pool {
         ensures new { IfOk result (λ id. id.at ≡ length self.old) }
         ensures err { OnErr result (self.new ≡ self.old) }
     {
+        let depth = self.node_depth(&node)?;
         let at = self.nodes.len();
-        self.nodes.push(node)?;
+        self.nodes.push(Placed { node, depth })?;
         Ok(TermId { at })
     }
+
     /// How many ids are held.
     pub fn len(&self) -> usize
         ensures { result ≡ length self.now }

@@ -56,6 +56,31 @@ fn abstraction(alloc: Global, pool: &mut Pool, name: &[u8]) -> Result<TermId, Al
     pool.put(Node::Lam(binder, prop, body))
 }
 
+// So many applications, each of the one before.
+#[tactic(auto, using(crate::proofs::Region::kept))]
+fn tower(pool: &mut Pool, applications: usize) -> Result<TermId, AllocError>
+    ensures kept { Kept pool.old pool.new }
+    ensures held { IfOk result (λ id. id.at < length pool.new) }
+{
+    let leaf = pool.put(Node::Var(0))?;
+    let mut top = leaf;
+    for _ in 0..applications {
+        top = pool.put(Node::App(top, leaf))?;
+    }
+    Ok(top)
+}
+
+#[test]
+#[tactic(auto, using(crate::proofs::Region::kept))]
+fn trees_are_at_most_2_000_deep(rt: HostRuntime) -> Result<(), Fail> {
+    let mut pool = Pool::new(rt.alloc());
+    assert!(rt; tower(&mut pool, 2001).is_err());
+    let t = tower(&mut pool, 1990)?;
+    let u = tower(&mut pool, 1990)?;
+    assert!(rt; pool.alike(t, u) && pool.depth(t) == 1991);
+    Ok(())
+}
+
 #[test]
 #[tactic(auto, using(crate::proofs::Region::kept))]
 fn names_of_binders_do_not_count(rt: HostRuntime) -> Result<(), Fail> {
@@ -63,7 +88,7 @@ fn names_of_binders_do_not_count(rt: HostRuntime) -> Result<(), Fail> {
     let mut pool = Pool::new(alloc);
     let t = abstraction(alloc, &mut pool, b"x")?;
     let u = abstraction(alloc, &mut pool, b"y")?;
-    assert!(rt; t != u && pool.alike(t, u));
+    assert!(rt; t != u && pool.alike(t, u) && pool.depth(t) == 5);
     assert!(rt; matches!(pool.node(t), Node::Lam(x, _, _) if x.as_bytes() == b"x".as_slice()));
     Ok(())
 }
@@ -179,7 +204,7 @@ fn contexts_and_constructors_are_lists(rt: HostRuntime) -> Result<(), Fail> {
     let cons = cons.clone()?;
     assert!(rt; cons.len() == 1 && cons.as_slice().len() == 1);
     assert!(rt; cons.get(0).is_some() && cons.get(1).is_none());
-    let _entry = Held::Inductive {
+    let entry = Held::Inductive {
         name: Name::from_bytes(alloc, b"t")?,
         co: false,
         params: 0,
@@ -187,5 +212,7 @@ fn contexts_and_constructors_are_lists(rt: HostRuntime) -> Result<(), Fail> {
         cons,
         large: false,
     };
+    let copy = entry.clone()?;
+    assert!(rt; matches!(&copy, Held::Inductive { cons, .. } if cons.len() == 1));
     Ok(())
 }
