@@ -19,6 +19,7 @@ use mt_pool::{Held, Pool, TermId};
 use mt_term::{Entry, Name, OutOfMemory};
 use mt_universe::{Graph, GraphStop};
 use std::alloc::{AllocFailed, Global};
+use std::clone::Clone;
 use std::marker::Model;
 
 /// Entries and a graph of universes, seen as the entries, oldest first, and the names and constraints of the graph.
@@ -59,6 +60,18 @@ impl Env {
             table: Table::new(alloc),
             graph: Graph::new(alloc),
         }
+    }
+
+    /// An equal environment.
+    pub fn copy(&self, alloc: Global) -> Result<Env, OutOfMemory>
+        ensures { IfOk result (λ e. e ≡ self.now) }
+    {
+        Ok(Env {
+            entries: copied_entries(alloc, &self.entries)?,
+            starts: self.starts.clone()?,
+            table: self.table.clone()?,
+            graph: self.graph.clone()?,
+        })
     }
 
     /// How many entries there are.
@@ -166,6 +179,16 @@ impl Env {
         self.entries.truncate(mark.entries);
         self.graph.back_to(mark.constraints);
     }
+}
+
+fn copied_entries(alloc: Global, entries: &[Held]) -> Result<Vec<Held>, OutOfMemory>
+    ensures { IfOk result (λ copied. copied.items ≡ entries.now) }
+{
+    let mut copied = Vec::new(alloc);
+    for entry in entries {
+        copied.push(entry.clone()?)?;
+    }
+    Ok(copied)
 }
 
 fn push_held(entries: &mut Vec<Held>, held: Held) -> Result<(), OutOfMemory>

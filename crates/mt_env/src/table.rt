@@ -1,5 +1,5 @@
 // The names in use.
-ghost use Rattle.std.specs.Prelude.{◌≡◌, None, [], ◌∷◌, ◌++◌, length, take, IfErr, OnOk, OnErr};
+ghost use Rattle.std.specs.Prelude.{◌≡◌, None, [], ◌∷◌, ◌++◌, length, take, IfOk, IfErr, OnOk, OnErr};
 ghost use Rattle.mt_term.specs.Naming.{find};
 ghost use Rattle.mt_env.specs.Names.{said, term_of};
 ghost use Rattle.mt_env.specs.Refusals.{AreRefusedBy};
@@ -9,6 +9,7 @@ use crate::stops::EnvStop;
 use indexmap::IndexMap;
 use mt_term::OutOfMemory;
 use std::alloc::{AllocFailed, Global};
+use std::clone::Clone;
 use std::marker::Model;
 
 /// Names with what they stand for, oldest first.
@@ -71,5 +72,15 @@ impl Table {
         ensures { self.new ≡ take len self.old }
     {
         self.refs.truncate(len);
+    }
+}
+
+impl Clone for Table {
+    fn clone(&self) -> Result<Table, OutOfMemory>
+        ensures { IfOk result (λ t. t ≡ self.now) }
+    {
+        Ok(Table {
+            refs: self.refs.clone()?,
+        })
     }
 }
