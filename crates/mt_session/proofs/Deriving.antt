@@ -1,23 +1,23 @@
 -- States whose terms have strict derivations are derivable.
-use Rattle.std.proofs.Common.{◌≡◌, ◌<◌, ◌≤◌, ℕ, zero, suc, true, false, List, [], ◌∷◌, length, Option, Some, None, refl, ap, ◌∙◌, sym, subst, arith}
+use Rattle.std.proofs.Common.{◌≡◌, ℕ, true, [], Option, Some, None, refl, ap, ◌∙◌, sym, subst}
 use Rattle.std.specs.Prelude.{slice_get, option_map}
 use Rattle.mt_term.specs.Trees.{Tree, Sort, Meta, End}
 use Rattle.mt_term.specs.declared.universes.Sort.{Sort as AnySort}
 use Rattle.mt_term.specs.Declarations.{Environment}
 use Rattle.mt_term.specs.States.{Metavariable}
 use Rattle.mt_term.specs.Substitution.{under}
-use Rattle.mt_term.specs.Stores.{AllMetasOf, MentionsOf, Declared, Store, no_store, store_of, types_of, declared_as, AllMetasHeld, InStore, Owned, Mentions, MentionsHeld, by_context, by_type, by_body, Reached, at_once, onward, Below, Acyclic}
-use Rattle.mt_term.specs.Scopes.{Plain, InScope}
-use Rattle.mt_term.specs.Typing.{IsContext, IsType, Has, Look, Holds, Strict, c_empty, t_meta, k_sort}
-use Rattle.mt_term.specs.Instances.{held_body, InstanceOf, InstanceContext, InstanceOfStore, OpenInstance, inst_empty, inst_open, inst_assigned, inst_end}
+use Rattle.mt_term.specs.Stores.{AllMetasOf, MentionsOf, Declared, Store, store_of, types_of, declared_as, InStore, Owned, MentionsHeld, by_context, by_type, by_body, Reached, at_once, onward, Acyclic}
+use Rattle.mt_term.specs.Scopes.{Plain}
+use Rattle.mt_term.specs.Typing.{Has, Holds, Strict, c_empty, t_meta, k_sort}
+use Rattle.mt_term.specs.Instances.{held_body, InstanceContext, InstanceOfStore, inst_empty, inst_open, inst_assigned, inst_end}
 use Rattle.mt_term.specs.SoundEnvironment.{SoundEnvironment}
 use Rattle.mt_term.specs.SoundStore.{SoundInstance, SoundByInstances}
 use Rattle.mt_term.specs.ScriptState.{Proof, State}
 use Rattle.mt_term.specs.Derivable.{Derivable, DerivableProof, DerivableIfOpen}
-use Rattle.mt_term.proofs.DerivationLaws.{strict_law}
+use Rattle.mt_term.proofs.DerivationLaws.{strict_law, scope_law}
 use Rattle.mt_term.proofs.Images.{some_inj}
-use Rattle.mt_session.specs.Ready.{IsClosed, IsClosedMeta, IsProofOf, IsOpenProof, IsClosedState, IsTyped, SoundState}
-use Rattle.mt_session.proofs.Scoping.{scope_plain, plain_free, plain_metas, plain_instance, plain_under}
+use Rattle.mt_session.specs.Ready.{IsOpenProof, IsTyped, SoundState}
+use Rattle.mt_session.proofs.Scoping.{plain_free, plain_metas, plain_instance, plain_under}
 
 -- the open metavariables of a store
 abbrev if_open : Option Tree → Declared → Option Declared
@@ -39,13 +39,17 @@ record IsSimple (E : Environment) (d : Declared) : Type 0 where
   pub plain : Plain 0 d.ty
   pub body : (b : Tree) → d.body ≡ Some b → Plain 0 b × Strict E [] (Has b d.ty)
 
-of_meta : (E : Environment) (m : Metavariable) → IsClosedMeta E m → IsTyped E m → IsSimple E (declared_as m)
-of_meta E m c t = record {
-  context = ap types_of c.context;
+-- so is a term with a type by a strict derivation
+pub plain_typed : (E : Environment) → SoundEnvironment E → (t T : Tree) → Strict E [] (Has t T) → Plain 0 t
+plain_typed E sound t T h = let p = (scope_law E sound [] (Has t T) h).1 in p.0
+
+of_meta : (E : Environment) → SoundEnvironment E → (m : Metavariable) → IsTyped E m → IsSimple E (declared_as m)
+of_meta E sound m t = record {
+  context = ap types_of t.context;
   sort = t.sort;
   ty = t.ty;
-  plain = scope_plain E 0 m.ty c.ty.1;
-  body = λ b e. (scope_plain E 0 b (c.body b e).1, t.body b e);
+  plain = plain_typed E sound m.ty (Sort t.sort) t.ty;
+  body = λ b e. (plain_typed E sound b m.ty (t.body b e), t.body b e);
 }
 
 mention_free : (E : Environment) (d : Declared) → IsSimple E d → (k : ℕ) → MentionsHeld k d → ⊥
@@ -131,15 +135,15 @@ module _ (E : Environment) (sound : SoundEnvironment E) (S : Store) (simple : (n
 module _ (s : State) (h : SoundState s) where
   simple_by : (n : ℕ) (d : Declared) (o : Option Metavariable) → slice_get s.store n ≡ o → option_map declared_as o ≡ Some d → IsSimple s.env d
   simple_by n d None is e = let no : ⊥ = cc in absurd no
-  simple_by n d (Some m) is e = subst (IsSimple s.env) (some_inj e) (of_meta s.env m (h.closed.metas n m is) (h.metas n m is))
+  simple_by n d (Some m) is e = subst (IsSimple s.env) (some_inj e) (of_meta s.env h.env m (h.metas n m is))
 
   simple_at : (n : ℕ) (d : Declared) → (store_of s.store).at n ≡ Some d → IsSimple s.env d
   simple_at n d e = simple_by n d (slice_get s.store n) refl e
 
-  derivable_if : (o : Option Proof) → IsOpenProof s.store o → DerivableIfOpen s.env (store_of s.store) o
+  derivable_if : (o : Option Proof) → IsOpenProof s.env s.store o → DerivableIfOpen s.env (store_of s.store) o
   derivable_if None p = tt
   derivable_if (Some q) p = proof_by s.env h.env (store_of s.store) simple_at q p.body (ap (option_map declared_as) p.is)
 
   -- a sound state is derivable
   pub derivable : Derivable s
-  derivable = record { env = h.env; store = sound_store s.env h.env (store_of s.store) simple_at; proof = derivable_if s.proof h.closed.proof }
+  derivable = record { env = h.env; store = sound_store s.env h.env (store_of s.store) simple_at; proof = derivable_if s.proof h.proof }

@@ -1,16 +1,15 @@
 -- What the kernel leaves of an allowance, and what one unit costs.
-use Rattle.std.proofs.Common.{◌≡◌, ◌≤◌, ℕ, suc, [], ◌+◌, ◌-◌, Bool, true, false, refl, ap, ◌∙◌, sym, subst, arith}
+use Rattle.std.proofs.Common.{◌≡◌, ◌≤◌, ℕ, ◌+◌, Bool, true, false, refl, arith}
 use Rattle.std.specs.Prelude.{if◌then◌else◌}
-use Rattle.mt_term.specs.Trees.{Tree}
-use Rattle.mt_term.specs.Declarations.{Declaration, Axiom, Definition, Inductive, Recursive, Environment}
+use Rattle.mt_term.specs.Declarations.{Environment}
 use Rattle.mt_term.specs.Charges.{Outcome, Done, Refused, Spent, rest}
-use Rattle.mt_term.specs.KernelCheck.{check, check_type}
+use Rattle.mt_term.specs.KernelCheck.{check_type}
 use Rattle.mt_term.specs.Stores.{no_store}
 use Rattle.mt_term.specs.ScriptState.{State}
 use Rattle.mt_term.proofs.AllowanceTheorem.{allowance_law}
 use Rattle.mt_kernel.specs.Answers.{charge_of}
-use Rattle.mt_session.specs.Tasks.{Task, Order, Enter, Begin, Close, Rest, Finish, passed, checked, judged}
-use Rattle.mt_session.specs.Moves.{Move, Goes, Fails, move_by, after_charge, charges_in}
+use Rattle.mt_session.specs.Tasks.{Task, Order, Begin, Close, Rest, Finish, passed, judged}
+use Rattle.mt_session.specs.Moves.{Move, move_by, after_charge, charges_in}
 
 rest_passed : {A : Type 0} (n : ℕ) (o : Outcome A) → rest o ≤ n → rest (passed o) ≤ n
 rest_passed n (Done a left) h = h
@@ -18,19 +17,12 @@ rest_passed n (Refused r left) h = h
 rest_passed n Spent h = h
 
 module _ (E : Environment) (n : ℕ) where
-  entry_rest : (d : Declaration) → rest (checked E d n) ≤ n
-  entry_rest (Axiom x T) = rest_passed n (check_type E T n) (((allowance_law E no_store).6 T).1 n)
-  entry_rest (Definition x T b) = ((allowance_law E no_store).7 b T).1 n
-  entry_rest (Inductive x co p T cs l) = omega arith
-  entry_rest (Recursive x co m r T b made) = omega arith
-
   pub judged_rest : (k : Task) → rest (judged E k n) ≤ n
   judged_rest (Order a b) = omega arith
-  judged_rest (Enter d) = entry_rest d
-  judged_rest (Begin x T) = entry_rest (Axiom x T)
-  judged_rest (Close m T t) = entry_rest (Definition [] T t)
+  judged_rest (Begin x T) = rest_passed n (check_type E T n) (((allowance_law E no_store).6 T).1 n)
+  judged_rest (Close m T t) = ((allowance_law E no_store).7 t T).1 n
   judged_rest Rest = omega arith
-  judged_rest (Finish d) = entry_rest d
+  judged_rest (Finish x T b) = ((allowance_law E no_store).7 b T).1 n
 
 -- what a unit takes of its whole allowance, by the kernel's charges and one before them where it takes one
 charges_by : (s : State) (start end n more : ℕ) (k : Task) (o : Outcome (Unit {0})) → rest o ≤ n → charges_in (more + n) (move_by s start end k o) ≡ more + charge_of n o

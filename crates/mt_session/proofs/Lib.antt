@@ -1,7 +1,10 @@
 pub mod Scoping
 pub mod Deriving
+pub mod Guarding
 pub mod Growing
-pub mod Resolving
+pub mod Holding
+pub mod Shapes
+pub mod Entering
 pub mod Changing
 pub mod Fitting
 pub mod Lasting

@@ -1,14 +1,12 @@
 -- Constraints that are tried, and proofs that end.
-use Rattle.std.proofs.Common.{◌≡◌, ◌<◌, ◌≤◌, ℕ, Bool, true, false, List, [], ◌∷◌, length, Option, Some, None, refl, ap, ◌∙◌, sym, subst, arith}
+use Rattle.std.proofs.Common.{◌≡◌, ◌<◌, ◌≤◌, ℕ, Bool, true, false, [], length, Some, refl, ap, ◌∙◌, sym, subst, arith}
 use Rattle.std.specs.Prelude.{if◌then◌else◌, nat_lt, slice_get, Result, OnOk}
 use Rattle.std.proofs.lemmas.Bool.Decides.{nat_tests}
 use Rattle.mt_term.specs.Trees.{Tree, Bytes, Meta, End}
 use Rattle.mt_term.specs.TreeOf.{tree_of}
 use Rattle.mt_term.specs.MetaOf.{body_of}
-use Rattle.mt_term.specs.Declarations.{Environment, Definition, Taken, Cycle}
-use Rattle.mt_term.specs.States.{Metavariable}
+use Rattle.mt_term.specs.Declarations.{Environment, Taken, Cycle}
 use Rattle.mt_term.specs.Instancing.{instance}
-use Rattle.mt_term.specs.ScriptState.{State}
 use Rattle.mt_term.specs.Universes.{Satisfiable}
 use Rattle.mt_term.specs.UniverseOrder.{acyclic}
 use Rattle.mt_term.specs.declared.terms.Term.{Term}
@@ -19,8 +17,9 @@ use Rattle.mt_session.specs.declared.sessions.OpenProof.{OpenProof}
 use Rattle.mt_session.specs.declared.sessions.Session.{Session}
 use Rattle.mt_session.specs.Tasks.{Finish, universes_of}
 use Rattle.mt_session.specs.Plans.{extra_name, ordered, finished}
-use Rattle.mt_session.specs.Ready.{IsClosedState, goals_of}
+use Rattle.mt_session.specs.Ready.{SoundState, goals_of}
 use Rattle.mt_session.specs.Sessions.{state_in, store_in, meta_in, opened}
+use Rattle.mt_session.proofs.Deriving.{plain_typed}
 use Rattle.mt_session.proofs.Growing.{slice_last}
 use Rattle.mt_session.proofs.Fitting.{nothing, instance_closed}
 
@@ -64,15 +63,15 @@ module _ (E : Environment) (g : Universes) (a b : Bytes) (at : ℕ) (e : g ≡ u
       by_tests _ _ false false (few (universes_of E) k) (no_cycle _ (λ t. m ((acyclic_decides (declared (universes_of E) a b).below).0 t)))
 
 -- the instance of the open proof's metavariable is its body
-pub finished_is : (s : Session) (p : OpenProof) (b : Term) → IsClosedState (state_in s) → s.proof ≡ Some p → p.body ≡ Some b → instance (state_in s).store (Meta (length s.metas) End) ≡ tree_of b
+pub finished_is : (s : Session) (p : OpenProof) (b : Term) → SoundState (state_in s) → s.proof ≡ Some p → p.body ≡ Some b → instance (state_in s).store (Meta (length s.metas) End) ≡ tree_of b
 finished_is s p b h e f =
     let is : slice_get (state_in s).store (length s.metas) ≡ Some (record { context = []; ty = tree_of p.ty; body = Some (tree_of b) }) =
     ap (λ q. slice_get (store_in s.metas q) (length s.metas)) e ∙ slice_last s.metas (meta_in p) ∙ ap (λ o. Some (record { context = []; ty = tree_of p.ty; body = body_of o })) f in
-    instance_closed (state_in s).env (state_in s).store (length s.metas) (tree_of p.ty) (tree_of b) is ((h.metas (length s.metas) _ is).body (tree_of b) refl)
+    instance_closed (state_in s).store (length s.metas) (tree_of p.ty) (tree_of b) is (plain_typed (state_in s).env h.env (tree_of b) (tree_of p.ty) ((h.metas (length s.metas) _ is).body (tree_of b) refl))
 
-pub finished_found : (s : Session) (p : OpenProof) (t : Term) (x : Bytes) (T b : Tree) (at : ℕ) → IsClosedState (state_in s) → s.proof ≡ Some p → p.body ≡ Some t → x ≡ p.name → T ≡ tree_of p.ty → b ≡ tree_of t → finished (state_in s) (opened (length s.metas) p) at (goals_of (length s.metas) (body_of p.body)) ≡ Found (Finish (Definition x T b))
+pub finished_found : (s : Session) (p : OpenProof) (t : Term) (x : Bytes) (T b : Tree) (at : ℕ) → SoundState (state_in s) → s.proof ≡ Some p → p.body ≡ Some t → x ≡ p.name → T ≡ tree_of p.ty → b ≡ tree_of t → finished (state_in s) (opened (length s.metas) p) at (goals_of (length s.metas) (body_of p.body)) ≡ Found (Finish x T b)
 finished_found s p t x T b at h e f ex eT eb =
     let i = finished_is s p t h e f in
     ap (λ o. finished (state_in s) (opened (length s.metas) p) at (goals_of (length s.metas) (body_of o))) f
-    ∙ ap (λ v. Found (Finish (Definition p.name (tree_of p.ty) v))) (i ∙ sym eb)
-    ∙ ap (λ v. Found (Finish (Definition p.name v b))) (sym eT) ∙ ap (λ v. Found (Finish (Definition v T b))) (sym ex)
+    ∙ ap (λ v. Found (Finish p.name (tree_of p.ty) v)) (i ∙ sym eb)
+    ∙ ap (λ v. Found (Finish p.name v b)) (sym eT) ∙ ap (λ v. Found (Finish v T b)) (sym ex)

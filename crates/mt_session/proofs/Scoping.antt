@@ -1,68 +1,12 @@
--- Closed terms without metavariables: what they mention, their instances, and larger environments.
-use Rattle.std.proofs.Common.{◌≡◌, ◌<◌, ◌≤◌, ◌≢◌, ◌⊎◌, inl, inr, ℕ, zero, suc, List, [], ◌∷◌, length, Option, Some, None, refl, ap, ◌∙◌, sym, subst, arith}
-use Rattle.std.specs.Prelude.{slice_get}
-use Rattle.mt_term.specs.Trees.{Tree, Trees, Arms, Bytes, Var, Sort, Prod, Lam, App, Const, Ind, Con, Match, Meta, End, Item, NoArm, Arm}
-use Rattle.mt_term.specs.declared.universes.Sort.{Sort as AnySort}
-use Rattle.mt_term.specs.declared.universes.Sort.TheVariants.{Prop, Typ}
-use Rattle.mt_term.specs.declared.universes.UnivExpr.{UnivExpr}
-use Rattle.mt_term.specs.Declarations.{Declaration, Constructor, Environment, constructor_in, constructor_at}
-use Rattle.mt_term.specs.Universes.{IsAtMost}
+-- Terms without metavariables: what they mention, and their instances.
+use Rattle.std.proofs.Common.{◌≡◌, inl, inr, ℕ, suc, Option, refl, arith}
+use Rattle.mt_term.specs.Trees.{Tree, Arms, Var, Sort, Prod, Lam, App, Const, Ind, Con, Match, Meta, End, NoArm, Arm}
 use Rattle.mt_term.specs.Substitution.{under}
-use Rattle.mt_term.specs.Stores.{Store, no_store, AllMetas, AllMetasArms, Mentions, MentionsArms}
-use Rattle.mt_term.specs.Scopes.{deep, IsNamed, InScope, InScopeArms, Plain, PlainArms}
+use Rattle.mt_term.specs.Stores.{Store, AllMetas, AllMetasArms, Mentions, MentionsArms}
+use Rattle.mt_term.specs.Scopes.{deep, Plain, PlainArms}
 use Rattle.mt_term.specs.Instances.{InstanceOf, InstanceArms, inst_var, inst_sort, inst_prod, inst_lam, inst_app, inst_const, inst_ind, inst_con, inst_match, inst_no_arm, inst_arm}
 use Rattle.mt_term.specs.Instancing.{put_values, put_values_arms}
 use Rattle.mt_term.proofs.Plain.{plain_fixed}
-
--- an environment has the entries of another, and no fewer names, and gives at least the same order
-pub record Wider (E E' : Environment) : Type 0 where
-  pub entries : (c : ℕ) (d : Declaration) → slice_get E.entries c ≡ Some d → slice_get E'.entries c ≡ Some d
-  pub count : length E.entries ≤ length E'.entries
-  pub names : length E.names ≤ length E'.names
-  pub below : (U V : UnivExpr) → IsAtMost E.below U V → IsAtMost E'.below U V
-
-mutual
-  pub scope_plain : (E : Environment) (n : ℕ) (t : Tree) → InScope E no_store n t → Plain n t
-  scope_plain E n (Var i) h = h
-  scope_plain E n (Sort s) h = tt
-  scope_plain E n (Prod x A B) h = (scope_plain E n A h.0, scope_plain E (suc n) B h.1)
-  scope_plain E n (Lam x A b) h = (scope_plain E n A h.0, scope_plain E (suc n) b h.1)
-  scope_plain E n (App f a) h = (scope_plain E n f h.0, scope_plain E n a h.1)
-  scope_plain E n (Const c) h = tt
-  scope_plain E n (Ind e) h = tt
-  scope_plain E n (Con e k) h = tt
-  scope_plain E n (Match e R c bs) h = (scope_plain E n R h.1, scope_plain E n c h.2, scope_plain_arms E n bs h.3)
-  scope_plain E n (Meta m s) h = let is = h.0.1 in let no : ⊥ = cc in absurd no
-
-  pub scope_plain_arms : (E : Environment) (n : ℕ) (bs : Arms) → InScopeArms E no_store n bs → PlainArms n bs
-  scope_plain_arms E n NoArm h = tt
-  scope_plain_arms E n (Arm xs b bs) h = (scope_plain E (deep xs n) b h.0, scope_plain_arms E n bs h.1)
-
-named_more : (E E' : Environment) → length E.names ≤ length E'.names → (s : AnySort) → IsNamed E s → IsNamed E' s
-named_more E E' le Prop h = tt
-named_more E E' le (Typ u) h = λ k d lt. omega (arith, h k d lt)
-
-constructor_more : (es fs : List Declaration) (e k : ℕ) (o : Option Declaration) → ((d : Declaration) → slice_get es e ≡ Some d → slice_get fs e ≡ Some d) → slice_get es e ≡ o → constructor_at es e k ≢ None → constructor_at fs e k ≢ None
-constructor_more es fs e k None more is h = absurd (h (ap (λ q. constructor_in q k) is))
-constructor_more es fs e k (Some d) more is h = λ none. h (ap (λ q. constructor_in q k) is ∙ sym (ap (λ q. constructor_in q k) (more d is)) ∙ none)
-
-module _ (E E' : Environment) (w : Wider E E') (S : Store) where
-  mutual
-    pub scope_more : (n : ℕ) (t : Tree) → InScope E no_store n t → InScope E' S n t
-    scope_more n (Var i) h = h
-    scope_more n (Sort s) h = named_more E E' w.names s h
-    scope_more n (Prod x A B) h = (scope_more n A h.0, scope_more (suc n) B h.1)
-    scope_more n (Lam x A b) h = (scope_more n A h.0, scope_more (suc n) b h.1)
-    scope_more n (App f a) h = (scope_more n f h.0, scope_more n a h.1)
-    scope_more n (Const c) h = omega (arith, w.count)
-    scope_more n (Ind e) h = omega (arith, w.count)
-    scope_more n (Con e k) h = constructor_more E.entries E'.entries e k (slice_get E.entries e) (w.entries e) refl h
-    scope_more n (Match e R c bs) h = (omega (arith, w.count, h.0), scope_more n R h.1, scope_more n c h.2, scope_more_arms n bs h.3)
-    scope_more n (Meta m s) h = let is = h.0.1 in let no : ⊥ = cc in absurd no
-
-    pub scope_more_arms : (n : ℕ) (bs : Arms) → InScopeArms E no_store n bs → InScopeArms E' S n bs
-    scope_more_arms n NoArm h = tt
-    scope_more_arms n (Arm xs b bs) h = (scope_more (deep xs n) b h.0, scope_more_arms n bs h.1)
 
 -- nothing is mentioned
 mutual

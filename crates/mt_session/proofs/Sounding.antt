@@ -1,6 +1,6 @@
 -- Each state of a run is derivable.
-use Rattle.std.proofs.Common.{◌≡◌, ℕ, zero, suc, Bool, true, false, List, [], ◌∷◌, Option, Some, None, refl, ap, ◌∙◌, sym, subst}
-use Rattle.std.specs.Prelude.{slice_get, IfSome}
+use Rattle.std.proofs.Common.{◌≡◌, ℕ, zero, suc, Bool, true, false, Option, Some, None, refl, subst}
+use Rattle.std.specs.Prelude.{IfSome, if◌then◌else◌}
 use Rattle.mt_term.specs.Trees.{Bytes}
 use Rattle.mt_term.specs.Charges.{Outcome, Done, Refused, Spent}
 use Rattle.mt_term.specs.ScriptState.{State}
@@ -9,14 +9,20 @@ use Rattle.mt_term_parser.specs.Readings.{Reading, Got, Stops}
 use Rattle.mt_unit_parser.specs.WrittenUnits.{WrittenUnit}
 use Rattle.mt_unit_parser.specs.Blocks.{unit}
 use Rattle.mt_resolver.specs.Resolution.{Resolution, Found, Faults}
-use Rattle.mt_session.specs.Tasks.{Task, judged, changed}
-use Rattle.mt_session.specs.Plans.{asked, takes_charge}
-use Rattle.mt_session.specs.Moves.{Blame, Move, Goes, Fails, move_by, move_for, after_charge, move}
+use Rattle.mt_term.specs.Declarations.{Declaration}
+use Rattle.mt_decl.specs.Answers.{Answer, Made}
+use Rattle.mt_decl.specs.Answers as answers
+use Rattle.mt_decl.specs.Declaring.{declared_entry}
+use Rattle.mt_decl.proofs.Sound.{declared_law}
+use Rattle.mt_decl.proofs.Names.{names_law}
+use Rattle.mt_session.specs.Tasks.{Task, judged, changed, with_entry_noted}
+use Rattle.mt_session.specs.Plans.{asked, declares, takes_charge}
+use Rattle.mt_session.specs.Moves.{Move, Goes, Fails, move_by, move_for, after_charge, move_by_entry, move_asked, move_declared, move}
 use Rattle.mt_session.specs.Ready.{SoundState, IsTaskOf}
 use Rattle.mt_session.specs.Runs.{Run, run_from, by_reading, by_move, ended, empty_state, allowance}
 use Rattle.mt_session.proofs.Deriving.{derivable}
 use Rattle.mt_session.proofs.Growing.{sound_none}
-use Rattle.mt_session.proofs.Changing.{changed_sound}
+use Rattle.mt_session.proofs.Changing.{changed_sound, entry_sound}
 use Rattle.mt_session.proofs.Fitting.{asked_task}
 
 module _ (s : State) (h : SoundState s) (start end : ℕ) where
@@ -35,9 +41,23 @@ module _ (s : State) (h : SoundState s) (start end : ℕ) where
   by_charge true r (suc n) t left f g = by_task r n t left f g
 
 -- a unit keeps a state sound
-pub move_sound : (s : State) (u : WrittenUnit) (n : ℕ) (t : State) (left : ℕ) → SoundState s → move s u n ≡ Goes t left → SoundState t
-move_sound s u n t left h g =
-    by_charge s h u.start u.end (takes_charge s.proof u.kind) (asked s u.start u.kind) n t left (λ k e. asked_task s h.closed u.start u.kind k e) g
+module _ (s : State) (u : WrittenUnit) (n : ℕ) (t : State) (left : ℕ) (h : SoundState s) where
+  asked_sound : move_asked s u n ≡ Goes t left → SoundState t
+  asked_sound g = by_charge s h u.start u.end (takes_charge s.proof u.kind) (asked s u.start u.kind) n t left (λ k e. asked_task s h u.start u.kind k e) g
+
+  by_entry : (o : Answer Declaration) → declared_entry s.env u.start u.kind n ≡ o → move_by_entry s u.start u.end o ≡ Goes t left → SoundState t
+  by_entry (Made d rest) e g =
+      let same : with_entry_noted s u.end d ≡ t = cc in
+      subst SoundState same (entry_sound s u.end d h (declared_law s.env h.env u.start u.kind d n rest e).0 (names_law s.env u.start u.kind d n rest e h.names))
+  by_entry (answers.Refused r at rest) e g = let no : ⊥ = cc in absurd no
+  by_entry answers.Spent e g = let no : ⊥ = cc in absurd no
+
+  by_kind : (b : Bool) → (if b then move_declared s u n else move_asked s u n) ≡ Goes t left → SoundState t
+  by_kind true g = by_entry (declared_entry s.env u.start u.kind n) refl g
+  by_kind false g = asked_sound g
+
+  pub move_sound : move s u n ≡ Goes t left → SoundState t
+  move_sound g = by_kind (declares s.proof u.kind) g
 
 moved_sound : (m : Move) (s : State) (go : State → Run) → SoundState s → ((t : State) (left : ℕ) → m ≡ Goes t left → SoundState (go t).state) → SoundState (by_move m (λ b. ended s (Some b)) go).state
 moved_sound (Goes t left) s go h g = g t left refl
@@ -56,9 +76,10 @@ run_sound text (suc n) s h =
 
 pub empty_sound : SoundState empty_state
 empty_sound = record {
-  closed = record { entries = λ n d is. let no : ⊥ = cc in absurd no; metas = λ n m is. let no : ⊥ = cc in absurd no; proof = tt };
   env = sound_none;
+  names = tt;
   metas = λ n m is. let no : ⊥ = cc in absurd no;
+  proof = tt;
 }
 
 each_derivable : (text : Bytes) (n : ℕ) → Derivable (run_from text n empty_state).state

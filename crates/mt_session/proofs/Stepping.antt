@@ -1,9 +1,9 @@
 -- Steps of a run.
-use Rattle.std.proofs.Common.{◌≡◌, ◌<◌, ◌≤◌, ℕ, zero, suc, ◌+◌, ◌-◌, Bool, true, false, List, [], ◌∷◌, length, Option, Some, None, refl, ap, ◌∙◌, sym, subst, arith}
-use Rattle.std.specs.Prelude.{Result, Ok, Err, IfOk, OnOk, OnErr}
+use Rattle.std.proofs.Common.{◌≡◌, ◌<◌, ◌≤◌, ℕ, zero, suc, ◌+◌, ◌-◌, Bool, true, false, List, length, Option, Some, None, refl, ap, ◌∙◌, sym, subst, arith}
+use Rattle.std.specs.Prelude.{Result, Ok, Err, IfOk, OnOk, OnErr, if◌then◌else◌}
 use Rattle.std.specs.Str.{IsUtf8, IsCharBoundary}
 use Rattle.std.proofs.lemmas.Str.{IsCharBoundary-start}
-use Rattle.mt_term.specs.Declarations.{Reason}
+use Rattle.mt_term.specs.Declarations.{Declaration}
 use Rattle.mt_term.specs.Charges.{Outcome, Done, Refused, Spent}
 use Rattle.mt_term.specs.ScriptState.{State}
 use Rattle.mt_term.specs.declared.refusals.Fault.{Fault}
@@ -11,14 +11,17 @@ use Rattle.mt_term_parser.specs.Readings.{Reading, Got, Stops}
 use Rattle.mt_unit_parser.specs.WrittenUnits.{WrittenUnit}
 use Rattle.mt_unit_parser.specs.Blocks.{unit}
 use Rattle.mt_resolver.specs.Resolution.{Resolution, Found, Faults}
+use Rattle.mt_decl.specs.Answers.{Answer, Made}
+use Rattle.mt_decl.specs.Answers as answers
+use Rattle.mt_decl.specs.Declaring.{declared_entry}
 use Rattle.mt_session.specs.declared.sessions.Session.{Session}
 use Rattle.mt_session.specs.declared.running.Step.{Step}
 use Rattle.mt_session.specs.declared.running.Step.TheVariants.{On, Over}
-use Rattle.mt_session.specs.Tasks.{Task, Order, Enter, Begin, Close, Rest, Finish, judged, changed}
-use Rattle.mt_session.specs.Plans.{asked, takes_charge}
-use Rattle.mt_session.specs.Moves.{Blame, Move, Goes, Fails, move_by, move_for, after_charge, move, charges_in}
+use Rattle.mt_session.specs.Tasks.{Task, Order, Begin, Close, Rest, Finish, judged, changed, with_entry_noted}
+use Rattle.mt_session.specs.Plans.{asked, declares, takes_charge}
+use Rattle.mt_session.specs.Moves.{Move, Goes, Fails, move_by, move_for, after_charge, move_by_entry, move_asked, move_declared, move, charges_in}
 use Rattle.mt_session.specs.Ready.{SoundState}
-use Rattle.mt_session.specs.Runs.{Run, run, run_from, cost, cost_from, by_reading, by_move, ended, empty_state, allowance}
+use Rattle.mt_session.specs.Runs.{run, run_from, cost, cost_from, by_reading, by_move, ended, empty_state, allowance}
 use Rattle.mt_session.specs.Sessions.{AreTables, IsReady, state_in}
 use Rattle.mt_session.specs.Steps.{Accepts, Refuses, MovesAs, GoesOn, IsOver, StepIs, CostIs, run_on, cost_on, blame_of, blame_in}
 use Rattle.mt_session.proofs.Sounding.{empty_sound, move_sound}
@@ -32,11 +35,10 @@ record Leads (s t : State) (end : ℕ) : Type 0 where
 
 leads_changed : (s : State) (end : ℕ) (k : Task) → Leads s (changed s end k) end
 leads_changed s end (Order a b) = record { place = refl; count = refl }
-leads_changed s end (Enter d) = record { place = refl; count = refl }
 leads_changed s end (Begin x T) = record { place = refl; count = refl }
 leads_changed s end (Close n T t) = record { place = refl; count = refl }
 leads_changed s end Rest = record { place = refl; count = refl }
-leads_changed s end (Finish d) = record { place = refl; count = refl }
+leads_changed s end (Finish x T b) = record { place = refl; count = refl }
 
 module _ (s : State) (start end : ℕ) (t : State) (left : ℕ) where
   leads_by : (k : Task) (o : Outcome (Unit {0})) → move_by s start end k o ≡ Goes t left → Leads s t end
@@ -53,8 +55,18 @@ module _ (s : State) (start end : ℕ) (t : State) (left : ℕ) where
   leads_after true r zero g = let no : ⊥ = cc in absurd no
   leads_after true r (suc n) g = leads_for r n g
 
-leads : (s : State) (u : WrittenUnit) (n : ℕ) (t : State) (left : ℕ) → move s u n ≡ Goes t left → Leads s t u.end
-leads s u n t left g = leads_after s u.start u.end t left (takes_charge s.proof u.kind) (asked s u.start u.kind) n g
+  leads_entry : (o : Answer Declaration) → move_by_entry s start end o ≡ Goes t left → Leads s t end
+  leads_entry (Made d rest) g = let same : with_entry_noted s end d ≡ t = cc in subst (λ u. Leads s u end) same (record { place = refl; count = refl })
+  leads_entry (answers.Refused r at rest) g = let no : ⊥ = cc in absurd no
+  leads_entry answers.Spent g = let no : ⊥ = cc in absurd no
+
+module _ (s : State) (u : WrittenUnit) (n : ℕ) (t : State) (left : ℕ) where
+  leads_kind : (b : Bool) → (if b then move_declared s u n else move_asked s u n) ≡ Goes t left → Leads s t u.end
+  leads_kind true g = leads_entry s u.start u.end t left (declared_entry s.env u.start u.kind n) g
+  leads_kind false g = leads_after s u.start u.end t left (takes_charge s.proof u.kind) (asked s u.start u.kind) n g
+
+  leads : move s u n ≡ Goes t left → Leads s t u.end
+  leads g = leads_kind (declares s.proof u.kind) g
 
 -- ---- one unit
 
@@ -88,13 +100,13 @@ module _ (text : List ℕ) (old : Session) where
           count = to.count;
         }
 
-    over : (f : Fault) → Refuses (move (state_in old) u allowance) f → IsOver text old old (Some f)
-    over f a = record { same = λ n. run_read n (Got (Some u) m) e ∙ ap (λ v. by_move v (λ b. ended (state_in old) (Some b)) (λ t. run_from text n t)) a.is }
+    over : (new : Session) (f : Fault) → state_in new ≡ state_in old → Refuses (move (state_in old) u allowance) f → IsOver text old new (Some f)
+    over new f same a = record { same = λ n. run_read n (Got (Some u) m) e ∙ ap (λ v. by_move v (λ b. ended (state_in old) (Some b)) (λ t. run_from text n t)) a.is ∙ ap (λ t. ended t (Some (blame_of f))) (sym same) }
 
     pub step_of_unit : {E : Type 0} (new : Session) (r : Result Step E) → old.place < u.end → IfOk r (λ s. MovesAs (move (state_in old) u allowance) old new s) → IfOk r (λ s. StepIs text old new s)
     step_of_unit new (Ok On) past a = goes new past a.0
     step_of_unit new (Ok (Over None)) past a = absurd a
-    step_of_unit new (Ok (Over (Some f))) past a = subst (λ w. IsOver text old w (Some f)) (sym a.1) (over f a.0)
+    step_of_unit new (Ok (Over (Some f))) past a = over new f a.1 a.0
     step_of_unit new (Err x) past a = tt
 
     ready : (new : Session) → IsReady text old → old.place < u.end → IsCharBoundary text u.end → Accepts (move (state_in old) u allowance) new → AreTables new → IsReady text new
@@ -106,10 +118,20 @@ module _ (text : List ℕ) (old : Session) where
           place = subst (IsCharBoundary text) (sym to.place) at;
         }
 
+    still : (new : Session) → IsReady text old → state_in new ≡ state_in old → AreTables new → IsReady text new
+    still new h same tables =
+        let units : new.units ≡ old.units = ap (λ (t : State). t.units) same in
+        let place : new.place ≡ old.place = ap (λ (t : State). t.place) same in record {
+          tables = tables;
+          sound = subst SoundState (sym same) h.sound;
+          count = omega (arith, units, place, h.count);
+          place = subst (IsCharBoundary text) (sym place) h.place;
+        }
+
     pub ready_of_unit : {E : Type 0} (new : Session) (r : Result Step E) → IsReady text old → old.place < u.end → IsCharBoundary text u.end → IfOk r (λ s. MovesAs (move (state_in old) u allowance) old new s) → OnOk r (IsReady text new)
     ready_of_unit new (Ok On) h past at a = ready new h past at a.0 a.1
     ready_of_unit new (Ok (Over None)) h past at a = absurd a
-    ready_of_unit new (Ok (Over (Some f))) h past at a = subst (IsReady text) (sym a.1) h
+    ready_of_unit new (Ok (Over (Some f))) h past at a = still new h a.1 a.2
     ready_of_unit new (Err x) h past at a = tt
 
     cost_moved : (n : ℕ) (v : Move) → move (state_in old) u allowance ≡ v → cost_on text (suc n) old ≡ charges_in allowance (move (state_in old) u allowance) + by_move v (λ b. 0) (λ t. cost_from text n t)

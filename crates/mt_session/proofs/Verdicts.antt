@@ -1,11 +1,8 @@
 -- The kernel's verdicts on what units ask for.
-use Rattle.std.proofs.Common.{◌≡◌, ℕ, refl, ap, ◌∙◌}
-use Rattle.mt_term.specs.Trees.{Bytes, Tree}
-use Rattle.mt_term.specs.Declarations.{Environment, Axiom}
+use Rattle.std.proofs.Common.{◌≡◌, ℕ, refl}
 use Rattle.mt_term.specs.Charges.{Outcome, Done, Refused, Spent}
-use Rattle.mt_term.specs.KernelCheck.{check_type}
 use Rattle.mt_kernel.specs.Answers.{verdict_of, charge_of}
-use Rattle.mt_session.specs.Tasks.{passed, checked}
+use Rattle.mt_session.specs.Tasks.{passed}
 use Rattle.mt_session.specs.Steps.{refusal_of, refusal_by}
 
 pub refusal_verdict : (a : ℕ) (o : Outcome (Unit {0})) → refusal_by (verdict_of a o) ≡ refusal_of o
@@ -24,10 +21,4 @@ charge_passed a (Done x left) = refl
 charge_passed a (Refused r left) = refl
 charge_passed a Spent = refl
 
-pub axiom_verdict : (E : Environment) (x : Bytes) (T : Tree) (a : ℕ) → verdict_of a (check_type E T a) ≡ verdict_of a (checked E (Axiom x T) a)
-axiom_verdict E x T a = verdict_passed a (check_type E T a)
-
-pub axiom_charge : (E : Environment) (x : Bytes) (T : Tree) (a : ℕ) → charge_of a (check_type E T a) ≡ charge_of a (checked E (Axiom x T) a)
-axiom_charge E x T a = charge_passed a (check_type E T a)
-
-pub ruleset kernel_rules = (axiom_verdict, axiom_charge)
+pub ruleset kernel_rules = (verdict_passed, charge_passed)

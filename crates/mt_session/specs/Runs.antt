@@ -1,5 +1,5 @@
 -- A run of a script from the empty state.
-use Rattle.std.specs.Prelude.{ℕ, zero, suc, ◌+◌, Bool, true, false, ◌&&◌, if◌then◌else◌, List, [], length, Option, Some, None, nat_lt}
+use Rattle.std.specs.Prelude.{ℕ, zero, suc, ◌+◌, Bool, true, false, ◌&&◌, [], length, Option, Some, None}
 use Rattle.mt_term.specs.Trees.{Bytes}
 use Rattle.mt_term.specs.ScriptState.{Proof, State}
 use Rattle.mt_term_parser.specs.Readings.{Reading, Got, Stops}

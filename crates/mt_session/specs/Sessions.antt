@@ -4,16 +4,16 @@ use Rattle.std.specs.Str.{IsCharBoundary}
 use Rattle.mt_term.specs.Trees.{Bytes}
 use Rattle.mt_term.specs.TreeOf.{tree_of}
 use Rattle.mt_term.specs.MetaOf.{body_of}
-use Rattle.mt_term.specs.EntryOf.{declaration_of}
 use Rattle.mt_term.specs.EnvironmentOf.{environment_of}
 use Rattle.mt_term.specs.States.{Metavariable}
 use Rattle.mt_term.specs.ScriptState.{Proof, State}
+use Rattle.mt_env.specs.Environments.{EntriesBelow, declarations_in}
 use Rattle.mt_resolver.specs.TableOf.{AreNamesOf}
 use Rattle.mt_session.specs.declared.sessions.OpenProof.{OpenProof}
 use Rattle.mt_session.specs.declared.sessions.Session.{Session}
 use Rattle.mt_session.specs.declared.tasks.Task.{Task as ProgramTask}
 use Rattle.mt_session.specs.declared.tasks.Task.TheVariants as task
-use Rattle.mt_session.specs.Tasks.{Task, Order, Enter, Begin, Close, Rest, Finish, universes_of}
+use Rattle.mt_session.specs.Tasks.{Task, Order, Begin, Close, Rest, Finish, universes_of}
 use Rattle.mt_session.specs.Ready.{goals_of, SoundState}
 
 abbrev pub meta_in : OpenProof → Metavariable
@@ -37,16 +37,17 @@ state_in s = record { env = environment_of s.env; store = store_in s.metas s.pro
 
 abbrev pub task_of : ProgramTask → Task
 task_of (task.Order a b) = Order a b
-task_of (task.Enter e) = Enter (declaration_of e)
 task_of (task.Begin x T) = Begin x (tree_of T)
 task_of (task.Close n T t) = Close n (tree_of T) (tree_of t)
 task_of task.Rest = Rest
-task_of (task.Finish e) = Finish (declaration_of e)
+task_of (task.Finish x T b) = Finish x (tree_of T) (tree_of b)
 
--- the tables beside a state are those of its environment
+-- the names and the entries in the pool that stand beside an environment are its own
 pub record AreTables (s : Session) : Type 0 where
   pub names : AreNamesOf s.names s.env.entries
-  pub graph : s.graph ≡ universes_of (environment_of s.env)
+  pub entries : declarations_in s.pool s.held.entries ≡ s.env.entries
+  pub graph : s.held.graph ≡ universes_of (environment_of s.env)
+  pub below : EntriesBelow (length s.pool) s.held.entries
 
 -- a state from which units of a text can be taken
 pub record IsReady (text : Bytes) (s : Session) : Type 0 where

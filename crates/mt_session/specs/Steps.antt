@@ -1,20 +1,16 @@
 -- Steps of a run, as the code takes them.
-use Rattle.std.specs.Prelude.{◌≡◌, ◌≤◌, ◌<◌, ℕ, suc, ◌+◌, List, [], ◌∷◌, length, Option, Some, None, is_some, true}
-use Rattle.std.specs.Str.{IsCharBoundary}
+use Rattle.std.specs.Prelude.{◌≡◌, ◌<◌, ℕ, suc, ◌+◌, Option, Some, None}
 use Rattle.mt_term.specs.Trees.{Bytes}
-use Rattle.mt_term.specs.Declarations.{Declaration, Axiom, Definition, Reason, KernelRefused, number_of}
+use Rattle.mt_term.specs.Declarations.{Reason, KernelRefused, number_of}
 use Rattle.mt_term.specs.Declarations.{Spent as AllowanceSpent}
 use Rattle.mt_term.specs.ReasonOf.{reason_of}
 use Rattle.mt_term.specs.Charges.{Outcome, Done, Refused, Spent}
 use Rattle.mt_term.specs.declared.refusals.Refusal.{Refusal}
 use Rattle.mt_term.specs.declared.refusals.Fault.{Fault}
 use Rattle.mt_kernel.specs.Answers.{Answer, Yes, No, Spent as SpentAnswer}
-use Rattle.mt_kernel.specs.Plain.{IsPlain, IsPlainEntry}
-use Rattle.mt_session.specs.declared.sessions.OpenProof.{OpenProof}
 use Rattle.mt_session.specs.declared.sessions.Session.{Session}
 use Rattle.mt_session.specs.declared.running.Step.{Step}
 use Rattle.mt_session.specs.declared.running.Step.TheVariants.{On, Over}
-use Rattle.mt_session.specs.Tasks.{Task, Order, Enter, Begin, Close, Rest, Finish}
 use Rattle.mt_session.specs.Moves.{Blame, Move, Goes, Fails}
 use Rattle.mt_session.specs.Runs.{Run, run_from, cost_from, ended}
 use Rattle.mt_session.specs.Sessions.{AreTables, state_in}
@@ -42,23 +38,6 @@ abbrev pub blame_in : Option Fault → Option Blame
 blame_in None = None
 blame_in (Some f) = Some (blame_of f)
 
--- the terms of a task are of the forms that scripts have so far
-abbrev pub IsPlainTask : Task → Type 0
-IsPlainTask (Enter d) = IsPlainEntry d
-IsPlainTask (Begin x T) = IsPlain T
-IsPlainTask (Close n T t) = IsPlain T × IsPlain t
-IsPlainTask (Finish d) = IsPlainEntry d
-IsPlainTask _ = Unit {0}
-
--- a task stands beside a proof: outside one, or as the end of a goal or of the proof
-abbrev pub Befits : Task → Option OpenProof → Type 0
-Befits (Order a b) p = p ≡ None
-Befits (Enter d) p = p ≡ None
-Befits (Begin x T) p = p ≡ None
-Befits (Close n T t) p = is_some p ≡ true
-Befits Rest p = Unit {0}
-Befits (Finish d) p = is_some p ≡ true
-
 -- a unit was accepted, or refused
 pub record Accepts (m : Move) (new : Session) : Type 0 where
   pub left : ℕ
@@ -71,7 +50,7 @@ pub record Refuses (m : Move) (f : Fault) : Type 0 where
 abbrev pub MovesAs : Move → Session → Session → Step → Type 0
 MovesAs m old new On = Accepts m new × AreTables new
 MovesAs m old new (Over None) = ⊥
-MovesAs m old new (Over (Some f)) = Refuses m f × (new ≡ old)
+MovesAs m old new (Over (Some f)) = Refuses m f × (state_in new ≡ state_in old) × AreTables new
 
 -- at most n more units from a state
 abbrev pub run_on : Bytes → ℕ → Session → Run

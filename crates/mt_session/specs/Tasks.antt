@@ -1,7 +1,7 @@
--- What a unit asks for, what the kernel says of it, and what it makes of a state.
-use Rattle.std.specs.Prelude.{ℕ, zero, suc, ◌+◌, Bool, true, List, [], ◌∷◌, ◌++◌, length, drop, Option, Some, None}
+-- What a unit asks for that declares no entry, what the kernel says of it, and what it makes of a state.
+use Rattle.std.specs.Prelude.{ℕ, zero, suc, ◌+◌, true, List, [], ◌∷◌, ◌++◌, length, drop, Option, Some, None}
 use Rattle.mt_term.specs.Trees.{Tree, Bytes}
-use Rattle.mt_term.specs.Declarations.{Declaration, Axiom, Definition, Environment, NotHere}
+use Rattle.mt_term.specs.Declarations.{Declaration, Definition, Environment}
 use Rattle.mt_term.specs.States.{Metavariable, Note, EntryNote, ConstraintNote}
 use Rattle.mt_term.specs.ScriptState.{Proof, State}
 use Rattle.mt_term.specs.SoundEnvironment.{with_entry}
@@ -12,16 +12,14 @@ use Rattle.mt_universe.specs.Graphs.{Universes, declared}
 pub data Task : Type 0 where
   -- a constraint: the first name is below the second
   Order : Bytes → Bytes → Task
-  -- an entry
-  Enter : Declaration → Task
   -- a proof of a statement begins
   Begin : Bytes → Tree → Task
   -- a goal, its statement, and the term that closes it
   Close : ℕ → Tree → Tree → Task
   -- nothing
   Rest : Task
-  -- the proof ends with an entry
-  Finish : Declaration → Task
+  -- the proof ends, with its name, its statement and its term as a definition
+  Finish : Bytes → Tree → Tree → Task
 
 -- ---- the kernel
 
@@ -31,20 +29,13 @@ passed (Done a left) = Done tt left
 passed (Refused r left) = Refused r left
 passed Spent = Spent
 
--- the kernel on an entry; the other kinds are none of a script's yet
-abbrev pub checked : Environment → Declaration → Charged (Unit {0})
-checked E (Axiom x T) n = passed (check_type E T n)
-checked E (Definition x T b) n = check E b T n
-checked E _ n = Refused NotHere n
-
 -- the kernel on what a unit asks for
 abbrev pub judged : Environment → Task → Charged (Unit {0})
 judged E (Order a b) = give tt
-judged E (Enter d) = checked E d
-judged E (Begin x T) = checked E (Axiom x T)
-judged E (Close n T t) = checked E (Definition [] T t)
+judged E (Begin x T) = λ n. passed (check_type E T n)
+judged E (Close n T t) = check E t T
 judged E Rest = give tt
-judged E (Finish d) = checked E d
+judged E (Finish x T b) = check E b T
 
 -- ---- the state
 
@@ -83,8 +74,7 @@ with_entry_noted s end d = onward s end (with_entry s.env d) s.store None (s.not
 -- the state after a unit that ends at a place
 abbrev pub changed : State → ℕ → Task → State
 changed s end (Order a b) = onward s end (with_universes s.env (declared (universes_of s.env) a b)) s.store s.proof (s.notes ++ ConstraintNote (length s.env.below) ∷ [])
-changed s end (Enter d) = with_entry_noted s end d
 changed s end (Begin x T) = onward s end s.env (s.store ++ open_goal T ∷ []) (Some (proof_from x T (length s.store))) s.notes
 changed s end (Close n T t) = onward s end s.env (with_body n t s.store) (without_goal s.proof) s.notes
 changed s end Rest = onward s end s.env s.store s.proof s.notes
-changed s end (Finish d) = with_entry_noted s end d
+changed s end (Finish x T b) = with_entry_noted s end (Definition x T b)

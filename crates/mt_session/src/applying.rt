@@ -4,14 +4,21 @@ ghost use Rattle.mt_term.specs.EntryOf.{declaration_of};
 ghost use Rattle.mt_term.specs.EnvironmentOf.{environment_of};
 ghost use Rattle.mt_term.specs.Trees.{Tree};
 ghost use Rattle.mt_term.specs.TreeOf.{tree_of};
+ghost use Rattle.mt_env.specs.Environments.{IsAdded, declarations_in};
+ghost use Rattle.mt_env.specs.Names.{Distinct};
+ghost use Rattle.mt_pool.specs.Region.{Kept};
+ghost use Rattle.mt_term.specs.Declarations.{Definition};
+ghost use Rattle.mt_term.specs.Naming.{naming};
 ghost use Rattle.mt_universe.specs.Graphs.{declared};
 ghost use Rattle.mt_session.specs.Ready.{IsTaskOf};
 ghost use Rattle.mt_session.specs.Sessions.{AreTables, meta_in, proof_in, state_in, store_in, task_of};
-ghost use Rattle.mt_session.specs.Tasks.{Begin, Close, Enter, Finish, Order, Rest, changed, with_body, without_goal};
+ghost use Rattle.mt_session.specs.Tasks.{Begin, Close, Finish, Order, Rest, changed, with_body, with_entry_noted, without_goal};
 ghost use Rattle.mt_term.specs.States.{Metavariable};
 
 use crate::sessions::{OpenProof, Session};
 use crate::tasks::Task;
+use mt_env::{Env, EnvStop};
+use mt_pool::Pool;
 use mt_term::{Entry, Hyps, Metas, Name, Names, Note, OutOfMemory, PlainEnv, PlainMeta, Term};
 use mt_universe::Graph;
 use std::alloc::Global;
@@ -34,7 +41,6 @@ pub fn apply(
 {
     match task {
         Task::Order(low, high) => order(alloc, session, end, low, high),
-        Task::Enter(entry) => enter(alloc, session, end, entry),
         Task::Begin(name, ty) => {
             begin(session, end, name, ty);
             Ok(())
@@ -47,7 +53,7 @@ pub fn apply(
             rest(session, end);
             Ok(())
         }
-        Task::Finish(entry) => finish(alloc, session, end, entry),
+        Task::Finish(name, ty, body) => finish(alloc, session, end, name, ty, body),
     }
 }
 
@@ -111,17 +117,25 @@ fn with_term(proof: Option<OpenProof>, term: Term) -> Option<OpenProof>
     }
 }
 
-fn enter(alloc: Global, session: &mut Session, end: usize, entry: Entry) -> Result<(), OutOfMemory>
+/// Adds an entry.
+pub fn enter(
+    alloc: Global,
+    session: &mut Session,
+    end: usize,
+    entry: Entry,
+) -> Result<(), OutOfMemory>
     requires tables { AreTables session.old }
     requires outside { (state_in session.old).proof ≡ None }
+    requires names { Distinct (naming (session.old.env.entries ++ declaration_of entry ∷ [])) }
     requires room { session.old.units < end }
-    ensures state { OnOk result (state_in session.new ≡ changed (state_in session.old) end (Enter (declaration_of entry))) }
+    ensures state { OnOk result (state_in session.new ≡ with_entry_noted (state_in session.old) end (declaration_of entry)) }
     ensures tables { OnOk result (AreTables session.new) }
     ensures place { OnOk result (session.new.place ≡ end) }
     ensures units { OnOk result (session.new.units ≡ session.old.units + 1) }
 {
     let number = session.env.entries.len();
     session.names.add(alloc, number, &entry)?;
+    hold(alloc, &mut session.pool, &mut session.held, &entry)?;
     session.env.entries.push(entry)?;
     session.notes.push(Note::Entry(number))?;
     session.units += 1;
@@ -129,18 +143,39 @@ fn enter(alloc: Global, session: &mut Session, end: usize, entry: Entry) -> Resu
     Ok(())
 }
 
+// Adds an entry to those in the pool. None of its names is in use.
+fn hold(alloc: Global, pool: &mut Pool, held: &mut Env, entry: &Entry) -> Result<(), OutOfMemory>
+    requires { Distinct (naming (declarations_in [] held.old.entries ++ declaration_of entry.now ∷ [])) }
+    ensures kept { Kept pool.old pool.new }
+    ensures added { OnOk result (IsAdded held.old held.new pool.new (declaration_of entry.now)) }
+{
+    match held.add(alloc, pool, entry) {
+        Ok(_) => Ok(()),
+        Err(EnvStop::Taken) => unreachable!(),
+        Err(EnvStop::OutOfMemory) => Err(OutOfMemory),
+    }
+}
+
 // The open proof ends: its metavariable stays, and its entry comes.
-fn finish(alloc: Global, session: &mut Session, end: usize, entry: Entry) -> Result<(), OutOfMemory>
+fn finish(
+    alloc: Global,
+    session: &mut Session,
+    end: usize,
+    name: Name,
+    ty: Term,
+    body: Term,
+) -> Result<(), OutOfMemory>
     requires tables { AreTables session.old }
+    requires names { Distinct (naming (session.old.env.entries ++ Definition name (tree_of ty) (tree_of body) ∷ [])) }
     requires room { session.old.units < end }
-    ensures state { OnOk result (state_in session.new ≡ changed (state_in session.old) end (Finish (declaration_of entry))) }
+    ensures state { OnOk result (state_in session.new ≡ changed (state_in session.old) end (Finish name (tree_of ty) (tree_of body))) }
     ensures tables { OnOk result (AreTables session.new) }
     ensures place { OnOk result (session.new.place ≡ end) }
     ensures units { OnOk result (session.new.units ≡ session.old.units + 1) }
 {
     let proof = session.proof.take();
     keep_meta(alloc, &mut session.metas, proof)?;
-    enter(alloc, session, end, entry)
+    enter(alloc, session, end, Entry::Definition { name, ty, body })
 }
 
 // The metavariable of a proof that ended comes after those of earlier ones.
@@ -171,9 +206,9 @@ fn order(
     ensures place { OnOk result (session.new.place ≡ end) }
     ensures units { OnOk result (session.new.units ≡ session.old.units + 1) }
 {
-    let number = session.graph.count();
-    declare(&mut session.graph, low, high)?;
-    constrain(alloc, &mut session.env, &session.graph, number)?;
+    let number = session.held.graph().count();
+    declare(&mut session.held, low, high)?;
+    constrain(alloc, &mut session.env, session.held.graph(), number)?;
     session.notes.push(Note::Constraint(number))?;
     session.units += 1;
     session.place = end;
@@ -181,10 +216,10 @@ fn order(
 }
 
 // A constraint that was tried before: it is refused by nothing but want of memory.
-fn declare(graph: &mut Graph, low: Name, high: Name) -> Result<(), OutOfMemory>
-    ensures { OnOk result (graph.new ≡ declared graph.old low high) }
+fn declare(held: &mut Env, low: Name, high: Name) -> Result<(), OutOfMemory>
+    ensures { OnOk result (held.new ≡ record held.old { graph = declared held.old.graph low high }) }
 {
-    match graph.declare(low, high) {
+    match held.constrain(low, high) {
         Ok(()) => Ok(()),
         Err(_) => Err(OutOfMemory),
     }

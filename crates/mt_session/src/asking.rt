@@ -1,26 +1,26 @@
-// What a unit asks for in a state: its conditions and names in their order.
+// What a unit asks for in a state that declares no entry: its conditions and names in their order.
 ghost use Rattle.std.specs.Prelude.{◌≡◌, ℕ, length, Some, IfOk, IfErr, OnOk};
 ghost use Rattle.mt_universe.specs.Graphs.{IsGraph, declared};
 ghost use Rattle.mt_universe.specs.Refusals.{IsRefusedBy};
 ghost use Rattle.mt_term.specs.Declarations.{Environment};
 ghost use Rattle.mt_term.specs.EnvironmentOf.{environment_of};
 ghost use Rattle.mt_term.specs.TreeOf.{tree_of};
-ghost use Rattle.mt_term_parser.specs.Written.{Given};
 ghost use Rattle.mt_term_parser.specs.WrittenOf.{written_of};
 ghost use Rattle.mt_unit_parser.specs.UnitOf.{deed_of, kind_of, tiny_of};
-ghost use Rattle.mt_unit_parser.specs.WrittenUnits.{Axiom as WrittenAxiom, Definition as WrittenDefinition, Theorem as WrittenTheorem, Constraint as WrittenConstraint};
+ghost use Rattle.mt_unit_parser.specs.WrittenUnits.{Theorem as WrittenTheorem, Constraint as WrittenConstraint};
 ghost use Rattle.mt_resolver.specs.Resolution.{resolved};
 ghost use Rattle.mt_resolver.specs.Resolves.{Resolves};
 ghost use Rattle.mt_resolver.specs.TableOf.{AreNamesOf};
-ghost use Rattle.mt_session.specs.Plans.{asked, asked_by_command, asked_by_deed, asked_by_proof, asked_by_step, closed_by, closed_term, finished, fresh, is_built_deed, is_built_kind, is_built_step, ordered, takes_charge, is_action, costs_in, extra_name};
-ghost use Rattle.mt_session.specs.Ready.{IsClosedState, goals_of};
+ghost use Rattle.mt_session.specs.Plans.{asked, asked_by_command, asked_by_deed, asked_by_proof, asked_by_step, closed_by, closed_term, costs_in, declares, extra_name, finished, fresh, is_action, is_declaring, ordered, takes_charge};
+ghost use Rattle.mt_session.specs.Ready.{SoundState, goals_of};
 ghost use Rattle.mt_session.specs.Sessions.{AreTables, opened, proof_in, state_in, task_of};
 ghost use Rattle.mt_session.specs.Tasks.{universes_of};
 
+use crate::forms::is_built_kind;
 use crate::sessions::{OpenProof, Session};
 use crate::tasks::Task;
-use mt_resolver::{Scope, Table, is_built, resolve};
-use mt_term::{Entry, Fault, Halt, Name, OutOfMemory, PlainEnv, Refusal, Term, copy};
+use mt_resolver::{Scope, Table, resolve};
+use mt_term::{Fault, Halt, Name, OutOfMemory, PlainEnv, Refusal, Term, copy};
 use mt_term_parser::Raw;
 use mt_tiny::Tiny;
 use mt_unit_parser::{Action, ActionShape, UnitKind};
@@ -28,7 +28,7 @@ use mt_universe::{Graph, GraphStop};
 use std::alloc::{AllocError, Global};
 use std::clone::Clone;
 
-/// What a unit asks for.
+/// What a unit asks for that declares no entry.
 ///
 /// # Errors
 ///
@@ -36,7 +36,7 @@ use std::clone::Clone;
 /// `OpenMetas` and `Unbound` in the order written.
 pub fn asked(alloc: Global, session: &Session, at: usize, kind: &UnitKind) -> Result<Task, Halt>
     requires tables { AreTables session.now }
-    requires closed { IsClosedState (state_in session.now) }
+    requires sound { SoundState (state_in session.now) }
     ensures { Resolves task_of (asked (state_in session.now) at (kind_of kind.now)) result }
 {
     if !is_built_kind(kind)? {
@@ -52,39 +52,6 @@ fn refused(refusal: Refusal, at: usize) -> Halt
     ensures { result ≡ Halt.Refused (record { refusal = refusal; at = at }) }
 {
     Halt::Refused(Fault { refusal, at })
-}
-
-fn is_built_kind(kind: &UnitKind) -> Result<bool, OutOfMemory>
-    ensures { IfOk result (λ b. b ≡ is_built_kind (kind_of kind.now)) }
-{
-    match kind {
-        UnitKind::Constraint(_, _) | UnitKind::Qed => Ok(true),
-        UnitKind::Axiom(_, ty) | UnitKind::Theorem(_, ty) => is_built(ty, false),
-        UnitKind::Definition(_, Some(ty), body) => {
-            Ok(is_built(ty, false)? && is_built(body, false)?)
-        }
-        UnitKind::Step(step) => is_built_step(step),
-        _ => Ok(false),
-    }
-}
-
-fn is_built_step(step: &Tiny<Action>) -> Result<bool, OutOfMemory>
-    ensures { IfOk result (λ b. b ≡ is_built_step (tiny_of step.now)) }
-{
-    match step {
-        Tiny::Action(action) => is_built_deed(&action.shape),
-        Tiny::Dot => Ok(true),
-        _ => Ok(false),
-    }
-}
-
-fn is_built_deed(deed: &ActionShape) -> Result<bool, OutOfMemory>
-    ensures { IfOk result (λ b. b ≡ is_built_deed (deed_of deed.now)) }
-{
-    match deed {
-        ActionShape::Exact(term) => is_built(term, false),
-        _ => Ok(false),
-    }
 }
 
 /// Whether a unit takes a charge before all else: an action, where a goal is open.
@@ -109,6 +76,34 @@ fn has_goal(proof: &Option<OpenProof>) -> bool
     }
 }
 
+/// Whether a unit declares an entry: one that is built, outside a proof.
+pub fn declares(session: &Session, kind: &UnitKind) -> Result<bool, OutOfMemory>
+    ensures { IfOk result (λ b. b ≡ declares (state_in session.now).proof (kind_of kind.now)) }
+{
+    match &session.proof {
+        None => Ok(is_built_kind(kind)? && is_declaring(kind)),
+        Some(_) => Ok(false),
+    }
+}
+
+fn is_declaring(kind: &UnitKind) -> bool
+    ensures { result ≡ is_declaring (kind_of kind.now) }
+{
+    match kind {
+        UnitKind::Axiom(..)
+        | UnitKind::Definition(..)
+        | UnitKind::Inductive { .. }
+        | UnitKind::Recursive { .. } => true,
+        UnitKind::Constraint(..)
+        | UnitKind::Hint { .. }
+        | UnitKind::Coercion(_)
+        | UnitKind::Theorem(..)
+        | UnitKind::Qed
+        | UnitKind::Step(_)
+        | UnitKind::Block(_) => false,
+    }
+}
+
 // ---- commands
 
 fn asked_by_command(
@@ -121,48 +116,10 @@ fn asked_by_command(
     ensures { Resolves task_of (asked_by_command (environment_of session.now.env) at (kind_of kind.now)) result }
 {
     match kind {
-        UnitKind::Constraint(low, high) => asked_order(&session.graph, at, low, high),
-        UnitKind::Axiom(name, ty) => asked_axiom(alloc, session, at, name, ty),
-        UnitKind::Definition(name, Some(ty), body) => {
-            asked_definition(alloc, session, at, name, ty, body)
-        }
+        UnitKind::Constraint(low, high) => asked_order(session.held.graph(), at, low, high),
         UnitKind::Theorem(name, ty) => asked_theorem(alloc, session, at, name, ty),
         _ => Err(refused(Refusal::NotHere, at)),
     }
-}
-
-fn asked_axiom(
-    alloc: Global,
-    session: &Session,
-    at: usize,
-    name: &Name,
-    ty: &Raw,
-) -> Result<Task, Halt>
-    requires { AreTables session.now }
-    ensures { Resolves task_of (asked_by_command (environment_of session.now.env) at (WrittenAxiom name.now (written_of ty.now))) result }
-{
-    check_fresh(session, name, at)?;
-    let ty = closed_term(alloc, session, ty)?;
-    let name = name.clone()?;
-    Ok(Task::Enter(Entry::Axiom { name, ty }))
-}
-
-fn asked_definition(
-    alloc: Global,
-    session: &Session,
-    at: usize,
-    name: &Name,
-    ty: &Raw,
-    body: &Raw,
-) -> Result<Task, Halt>
-    requires { AreTables session.now }
-    ensures { Resolves task_of (asked_by_command (environment_of session.now.env) at (WrittenDefinition name.now (Given (written_of ty.now)) (written_of body.now))) result }
-{
-    check_fresh(session, name, at)?;
-    let ty = closed_term(alloc, session, ty)?;
-    let body = closed_term(alloc, session, body)?;
-    let name = name.clone()?;
-    Ok(Task::Enter(Entry::Definition { name, ty, body }))
 }
 
 fn asked_theorem(
@@ -239,7 +196,7 @@ fn asked_by_proof(
     kind: &UnitKind,
 ) -> Result<Task, Halt>
     requires tables { AreTables session.now }
-    requires closed { IsClosedState (state_in session.now) }
+    requires sound { SoundState (state_in session.now) }
     requires begun { session.now.proof ≡ Some begun.now }
     ensures { Resolves task_of (asked_by_proof (state_in session.now) (opened (length session.now.metas) begun.now) at (kind_of kind.now)) result }
 {
@@ -307,7 +264,7 @@ fn closed_by(
 
 // The proof as an entry, where its goal is closed.
 fn finished(alloc: Global, session: &Session, begun: &OpenProof, at: usize) -> Result<Task, Halt>
-    requires closed { IsClosedState (state_in session.now) }
+    requires sound { SoundState (state_in session.now) }
     requires begun { session.now.proof ≡ Some begun.now }
     ensures { let p = opened (length session.now.metas) begun.now in
         Resolves task_of (finished (state_in session.now) p at p.goals) result }
@@ -318,7 +275,7 @@ fn finished(alloc: Global, session: &Session, begun: &OpenProof, at: usize) -> R
             let name = begun.name.clone()?;
             let ty = copy(alloc, &begun.ty)?;
             let body = copy(alloc, term)?;
-            Ok(Task::Finish(Entry::Definition { name, ty, body }))
+            Ok(Task::Finish(name, ty, body))
         }
     }
 }

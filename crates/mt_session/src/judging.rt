@@ -1,16 +1,14 @@
 // What the kernel says of what a unit asks for.
 ghost use Rattle.std.specs.Prelude.{◌≡◌, ◌+◌, ◌≤◌, IfOk, OnOk, OnErr};
 ghost use Rattle.mt_kernel.specs.Answers.{answer_of, charge_of, verdict_of};
-ghost use Rattle.mt_kernel.specs.Plain.{IsPlain, IsPlainEntry, IsPlainEnv};
-ghost use Rattle.mt_term.specs.EntryOf.{declaration_of};
 ghost use Rattle.mt_term.specs.EnvironmentOf.{environment_of};
 ghost use Rattle.mt_session.specs.Sessions.{task_of};
-ghost use Rattle.mt_session.specs.Steps.{IsPlainTask, reason_in, refusal_by, refusal_of};
-ghost use Rattle.mt_session.specs.Tasks.{checked, judged};
+ghost use Rattle.mt_session.specs.Steps.{reason_in, refusal_by, refusal_of};
+ghost use Rattle.mt_session.specs.Tasks.{judged};
 
 use crate::tasks::Task;
 use mt_kernel::{Verdict, check, check_type};
-use mt_term::{Entry, OutOfMemory, PlainEnv, Refusal};
+use mt_term::{OutOfMemory, PlainEnv, Refusal};
 use mt_text::{Ledger, Steps};
 use std::alloc::Global;
 
@@ -23,8 +21,6 @@ pub fn judge<L: Ledger>(
     allowance: u64,
     steps: &mut Steps<L>,
 ) -> Result<Option<Refusal>, OutOfMemory>
-    requires env { IsPlainEnv (environment_of env.now) }
-    requires task { IsPlainTask (task_of task.now) }
     ensures refusal { IfOk result (λ r. reason_in r ≡ refusal_of (judged (environment_of env.now) (task_of task.now) allowance)) }
     ensures cost { OnOk result (steps.new ≡ steps.old + charge_of allowance (judged (environment_of env.now) (task_of task.now) allowance)) }
     ensures wanting { OnErr result (steps.new ≤ steps.old + charge_of allowance (judged (environment_of env.now) (task_of task.now) allowance)) }
@@ -41,40 +37,15 @@ fn verdict_on<L: Ledger>(
     allowance: u64,
     steps: &mut Steps<L>,
 ) -> Result<Verdict, OutOfMemory>
-    requires env { IsPlainEnv (environment_of env.now) }
-    requires task { IsPlainTask (task_of task.now) }
     ensures verdict { IfOk result (λ v. answer_of v ≡ verdict_of allowance (judged (environment_of env.now) (task_of task.now) allowance)) }
     ensures cost { OnOk result (steps.new ≡ steps.old + charge_of allowance (judged (environment_of env.now) (task_of task.now) allowance)) }
     ensures wanting { OnErr result (steps.new ≤ steps.old + charge_of allowance (judged (environment_of env.now) (task_of task.now) allowance)) }
 {
     match task {
         Task::Order(_, _) | Task::Rest => Ok(Verdict::Yes { cost: 0 }),
-        Task::Enter(entry) | Task::Finish(entry) => {
-            verdict_on_entry(alloc, env, entry, allowance, steps)
-        }
         Task::Begin(_, ty) => check_type(alloc, env, ty, allowance, steps),
         Task::Close(_, ty, term) => check(alloc, env, term, ty, allowance, steps),
-    }
-}
-
-#[tactic(auto, using(crate::proofs::Verdicts::kernel_rules))]
-fn verdict_on_entry<L: Ledger>(
-    alloc: Global,
-    env: &PlainEnv,
-    entry: &Entry,
-    allowance: u64,
-    steps: &mut Steps<L>,
-) -> Result<Verdict, OutOfMemory>
-    requires env { IsPlainEnv (environment_of env.now) }
-    requires entry { IsPlainEntry (declaration_of entry.now) }
-    ensures verdict { IfOk result (λ v. answer_of v ≡ verdict_of allowance (checked (environment_of env.now) (declaration_of entry.now) allowance)) }
-    ensures cost { OnOk result (steps.new ≡ steps.old + charge_of allowance (checked (environment_of env.now) (declaration_of entry.now) allowance)) }
-    ensures wanting { OnErr result (steps.new ≤ steps.old + charge_of allowance (checked (environment_of env.now) (declaration_of entry.now) allowance)) }
-{
-    match entry {
-        Entry::Axiom { ty, .. } => check_type(alloc, env, ty, allowance, steps),
-        Entry::Definition { ty, body, .. } => check(alloc, env, body, ty, allowance, steps),
-        _ => unreachable!(),
+        Task::Finish(_, ty, body) => check(alloc, env, body, ty, allowance, steps),
     }
 }
 

@@ -3,6 +3,8 @@
 
 mod applying;
 mod asking;
+mod declaring;
+mod forms;
 mod judging;
 mod replying;
 mod reporting;

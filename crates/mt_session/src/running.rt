@@ -3,17 +3,18 @@ ghost use Rattle.std.specs.Prelude.{◌≡◌, ◌<◌, ◌≤◌, ◌+◌, ℕ,
 ghost use Rattle.mt_kernel.specs.Answers.{charge_of};
 ghost use Rattle.mt_term.specs.EnvironmentOf.{environment_of};
 ghost use Rattle.mt_unit_parser.specs.UnitOf.{kind_of, unit_of};
-ghost use Rattle.mt_session.specs.Moves.{charges_in, move, move_by};
+ghost use Rattle.mt_session.specs.Moves.{charges_in, move, move_asked, move_by, move_declared};
 ghost use Rattle.mt_session.specs.Output.{run_text};
-ghost use Rattle.mt_session.specs.Plans.{takes_charge};
-ghost use Rattle.mt_session.specs.Ready.{IsClosedState, IsTaskOf};
+ghost use Rattle.mt_session.specs.Plans.{declares, takes_charge};
+ghost use Rattle.mt_session.specs.Ready.{SoundState, IsTaskOf};
 ghost use Rattle.mt_session.specs.Runs.{cost, empty_state, ended, is_clean, run};
 ghost use Rattle.mt_session.specs.Sessions.{AreTables, IsReady, state_in, task_of};
 ghost use Rattle.mt_session.specs.Steps.{CostIs, MovesAs, StepIs, blame_in, cost_on};
 ghost use Rattle.mt_session.specs.Tasks.{judged};
 
 use crate::applying::apply;
-use crate::asking::{asked, takes_charge};
+use crate::asking::{asked, declares, takes_charge};
+use crate::declaring::take_entry;
 use crate::judging::judge;
 use crate::reporting::{Report, report_on};
 use crate::sessions::Session;
@@ -24,7 +25,7 @@ use mt_unit_parser::{Parsed, Unit, UnitKind, unit_at};
 use std::alloc::Global;
 
 // The allowance of each unit.
-const ALLOWANCE: u64 = 100_000;
+pub(crate) const ALLOWANCE: u64 = 100_000;
 
 /// Whether a run goes on after a unit, or with what fault it is over, if there is one.
 #[derive(Drop)]
@@ -99,11 +100,33 @@ fn take<L: Ledger>(
     steps: &mut Steps<L>,
 ) -> Result<Step, OutOfMemory>
     requires tables { AreTables session.old }
-    requires closed { IsClosedState (state_in session.old) }
+    requires sound { SoundState (state_in session.old) }
     requires room { session.old.units < unit.now.span.end }
     ensures moves { IfOk result (λ s. MovesAs (move (state_in session.old) (unit_of unit.now) 100000) session.old session.new s) }
     ensures cost { OnOk result (steps.new ≡ steps.old + charges_in 100000 (move (state_in session.old) (unit_of unit.now) 100000)) }
     ensures wanting { OnErr result (steps.new ≤ steps.old + charges_in 100000 (move (state_in session.old) (unit_of unit.now) 100000)) }
+{
+    let is_entry = declares(session, &unit.kind)?;
+    if is_entry {
+        take_entry(alloc, session, unit, steps)
+    } else {
+        take_asked(alloc, session, unit, steps)
+    }
+}
+
+// Takes a unit that declares no entry.
+fn take_asked<L: Ledger>(
+    alloc: Global,
+    session: &mut Session,
+    unit: &Unit,
+    steps: &mut Steps<L>,
+) -> Result<Step, OutOfMemory>
+    requires tables { AreTables session.old }
+    requires sound { SoundState (state_in session.old) }
+    requires room { session.old.units < unit.now.span.end }
+    ensures moves { IfOk result (λ s. MovesAs (move_asked (state_in session.old) (unit_of unit.now) 100000) session.old session.new s) }
+    ensures cost { OnOk result (steps.new ≡ steps.old + charges_in 100000 (move_asked (state_in session.old) (unit_of unit.now) 100000)) }
+    ensures wanting { OnErr result (steps.new ≤ steps.old + charges_in 100000 (move_asked (state_in session.old) (unit_of unit.now) 100000)) }
 {
     let allowance = pay(session, &unit.kind, steps)?;
     let start = unit.span.start;
@@ -143,7 +166,7 @@ fn settle<L: Ledger>(
     steps: &mut Steps<L>,
 ) -> Result<Step, OutOfMemory>
     requires tables { AreTables session.old }
-    requires closed { IsClosedState (state_in session.old) }
+    requires sound { SoundState (state_in session.old) }
     requires fits { IsTaskOf (state_in session.old) (task_of task) }
     requires room { session.old.units < end }
     ensures moves { IfOk result (λ s. MovesAs (move_by (state_in session.old) start end (task_of task) (judged (environment_of session.old.env) (task_of task) allowance)) session.old session.new s) }

@@ -4,12 +4,13 @@ ghost use Rattle.mt_term.specs.StateOf.{open_proof_of, proof_of, state_of};
 ghost use Rattle.mt_session.specs.Runs.{empty_state};
 ghost use Rattle.mt_session.specs.Sessions.{AreTables, meta_in, opened, proof_in, state_in, store_in};
 
+use mt_env::Env;
+use mt_pool::Pool;
 use mt_resolver::Table;
 use mt_term::{
     Entries, GoalMarks, Hyps, Metas, Name, Names, Notes, OutOfMemory, Pairs, PlainEnv, PlainMeta,
     PlainProof, PlainState, PlainStore, Term, copy,
 };
-use mt_universe::Graph;
 use std::alloc::Global;
 use std::clone::Clone;
 
@@ -22,12 +23,13 @@ pub struct OpenProof {
 }
 
 /// The state of a run. `metas` are the metavariables of earlier proofs: that of the open proof comes
-/// after them. `graph` and `names` are tables of the environment.
+/// after them. `names` are the names of the environment, and `held` is the environment in `pool`.
 #[derive(Drop)]
 pub struct Session {
     pub env: PlainEnv,
-    pub graph: Graph,
     pub names: Table,
+    pub pool: Pool,
+    pub held: Env,
     pub metas: Metas,
     pub proof: Option<OpenProof>,
     pub units: usize,
@@ -47,8 +49,9 @@ impl Session {
                 names: Names::new(alloc),
                 below: Pairs::new(alloc),
             },
-            graph: Graph::new(alloc),
             names: Table::new(alloc),
+            pool: Pool::new(alloc),
+            held: Env::new(alloc),
             metas: Metas::new(alloc),
             proof: None,
             units: 0,
@@ -63,8 +66,9 @@ impl Session {
     {
         let Session {
             env,
-            graph: _,
             names: _,
+            pool: _,
+            held: _,
             mut metas,
             proof,
             units,

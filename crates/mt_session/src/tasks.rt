@@ -1,14 +1,14 @@
 // What a unit asks for.
-use mt_term::{Entry, Name, Term};
+use mt_term::{Name, Term};
 
-/// What a unit asks for: a constraint, an entry, a proof that begins, a goal with its statement and
-/// the term that closes it, nothing, or the entry of a proof that ends.
+/// What a unit asks for that declares no entry: a constraint, a proof that begins, a goal with its
+/// statement and the term that closes it, nothing, or the end of a proof with its name, its
+/// statement and its term.
 #[derive(Drop)]
 pub enum Task {
     Order(Name, Name),
-    Enter(Entry),
     Begin(Name, Term),
     Close(usize, Term, Term),
     Rest,
-    Finish(Entry),
+    Finish(Name, Term, Term),
 }

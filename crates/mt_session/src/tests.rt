@@ -39,7 +39,7 @@ fn served(
 #[test]
 fn each_script_has_its_output_and_status(rt: HostRuntime) -> Result<(), Fail> {
     let alloc = rt.alloc();
-    let cases: [(&str, Status, &str); 12] = [
+    let cases: [(&str, Status, &str); 15] = [
         (
             "",
             Status::Done,
@@ -99,6 +99,21 @@ fn each_script_has_its_output_and_status(rt: HostRuntime) -> Result<(), Fail> {
             "qed.",
             Status::Refused,
             "no 0 0 21 NotHere 0 1\nstate 0 0\nenv 0\nproof none\nend\n",
+        ),
+        (
+            "inductive nat : Type[0] ≝ O : nat | S : nat → nat.",
+            Status::Done,
+            "ok 1 54\nstate 1 54\nenv 1\ninductive nat : Type[0] ≝ | O : nat | S : nat → nat.\nproof none\nend\n",
+        ),
+        (
+            "axiom T : Type[0]. inductive bad : Type[0] ≝ c : (bad → T) → bad.",
+            Status::Refused,
+            "no 1 18 12 NotPositive 47 46\nstate 1 18\nenv 1\naxiom T : Type[0].\nproof none\nend\n",
+        ),
+        (
+            "inductive nat : Type[0] ≝ O : nat. let rec f (n:nat) on n : nat ≝ f n.",
+            Status::Refused,
+            "no 1 36 13 NotGuarded 37 36\nstate 1 36\nenv 1\ninductive nat : Type[0] ≝ | O : nat.\nproof none\nend\n",
         ),
     ];
     for (script, wanted, text) in &cases {
