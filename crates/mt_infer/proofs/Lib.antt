@@ -1,0 +1,9 @@
+pub mod Lists
+pub mod Held
+pub mod Contexts
+pub mod Applying
+pub mod Inferring
+pub mod Eliminating
+pub mod Branching
+pub mod Matches
+pub mod Stepping

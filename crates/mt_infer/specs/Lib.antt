@@ -1,0 +1,5 @@
+pub mod Scopes
+pub mod Forms
+pub mod Arguments
+pub mod Fitting
+pub mod Families

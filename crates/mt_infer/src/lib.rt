@@ -1,0 +1,16 @@
+//! The inference of types, over any comparison and any weak head.
+#![tactic(auto)]
+
+mod arguments;
+mod branches;
+mod elimination;
+mod entries;
+mod expected;
+mod families;
+mod inference;
+mod inferrer;
+mod leaves;
+mod scopes;
+mod sorts;
+
+pub use inferrer::Inferrer;
