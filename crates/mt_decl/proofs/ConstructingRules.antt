@@ -18,10 +18,10 @@ use Rattle.mt_term_parser.specs.WrittenOf.{written_of}
 use Rattle.mt_unit_parser.specs.declared.units.RawCon.{RawCon}
 use Rattle.mt_unit_parser.specs.UnitOf.{con_of}
 use Rattle.mt_resolver.specs.Resolution.{Resolution, Found, Faults, resolved}
-use Rattle.mt_decl.specs.Answers.{Answer, Made, Refused, Spent, Answering, and_then, make, taken, by_kernel}
+use Rattle.mt_decl.specs.Answers.{Answer, Made, Refused, Spent, Answering, and_then, make, taken}
 use Rattle.mt_decl.specs.Telescopes.{generalized, names_of}
-use Rattle.mt_decl.specs.Declaring.{Declared, one_more, or_not_positive, argument_sorts, declared_constructor, declared_constructors}
-use Rattle.mt_decl.specs.EntryLaws.{rest, GoesByAllowance}
+use Rattle.mt_decl.specs.Declaring.{Declared, one_more, or_not_positive, declared_constructors}
+use Rattle.mt_decl.specs.EntryLaws.{rest}
 use Rattle.mt_decl.specs.Fitting.{sorting}
 use Rattle.mt_decl.specs.Judging.{type_judged}
 use Rattle.mt_decl.specs.Constructing.{family, finished, typed, constructed, joined, constructed_on}

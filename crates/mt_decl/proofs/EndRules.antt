@@ -3,7 +3,7 @@ use Rattle.std.specs.Prelude.{ℕ, ◌≡◌, ◌≤◌, ◌+◌, Bool, true, fa
 use Rattle.std.proofs.Common.{◌∙◌, ap, sym, arith}
 use Rattle.mt_term.specs.Trees.{Bytes, Tree}
 use Rattle.mt_term.specs.declared.universes.Sort.{Sort as AnySort}
-use Rattle.mt_term.specs.Declarations.{Reason, Hypothesis, Constructor, Declaration, Inductive, Recursive, Environment, NotASort}
+use Rattle.mt_term.specs.Declarations.{Reason, Hypothesis, Declaration, Inductive, Recursive, Environment, NotASort}
 use Rattle.mt_guard.specs.Deciding.{is_guarded}
 use Rattle.mt_guard.specs.Corecursive.{is_co_guarded}
 use Rattle.mt_term_parser.specs.WrittenOf.{written_of}
@@ -15,8 +15,8 @@ use Rattle.mt_unit_parser.specs.UnitOf.{con_of, function_of, group_of, type_of}
 use Rattle.mt_resolver.specs.Resolution.{Resolution, Found, Faults, then_found, first_place, resolved}
 use Rattle.mt_decl.specs.Answers.{Answer, Made, Refused, Spent, Answering, and_then, make, taken}
 use Rattle.mt_decl.specs.Telescopes.{generalized, names_of, result_sort}
-use Rattle.mt_decl.specs.Declaring.{Declared, declared_constructors, function_rest, knowing, or_no_binder, or_not_a_sort, place_of, resolved_groups}
-use Rattle.mt_decl.specs.EntryLaws.{rest, GoesByAllowance}
+use Rattle.mt_decl.specs.Declaring.{Declared, declared_constructors, knowing, or_no_binder, or_not_a_sort, place_of, resolved_groups}
+use Rattle.mt_decl.specs.EntryLaws.{rest}
 use Rattle.mt_decl.specs.Judging.{type_judged}
 use Rattle.mt_decl.specs.Constructing.{family, joined, constructed_on}
 use Rattle.mt_decl.specs.Ends.{closed_end, family_known, family_end, type_end, recursive_end, corecursive_end, ended, walked}

@@ -10,9 +10,9 @@ use Rattle.mt_term.specs.Charges as charges
 use Rattle.mt_term.specs.Charges.{Outcome}
 use Rattle.mt_term.specs.KernelCheck.{check}
 use Rattle.mt_term.proofs.InferenceLaws.{check-rest}
-use Rattle.mt_decl.specs.Answers.{Answer, Made, Refused, Spent, Answering, and_then, make, from_kernel, yes_or_no, by_kernel, is_accepted}
+use Rattle.mt_decl.specs.Answers.{Answer, Made, Refused, Spent, Answering, and_then, make, from_kernel, yes_or_no, by_kernel}
 use Rattle.mt_decl.specs.Telescopes.{abstracted, generalized}
-use Rattle.mt_decl.specs.Declaring.{argument_check, arguments_fit, do_arguments_fit, argument_sorts}
+use Rattle.mt_decl.specs.Declaring.{argument_check, arguments_fit, do_arguments_fit}
 use Rattle.mt_decl.specs.EntryLaws.{rest}
 use Rattle.mt_decl.specs.Fitting.{checking, judging, accepting, fitting, all_fitting, sorting}
 use Rattle.mt_decl.proofs.Allowance.{fit_goes, do_fit_goes, sorts_go}

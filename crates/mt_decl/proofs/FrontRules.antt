@@ -7,7 +7,7 @@ use Rattle.mt_term.specs.Declarations.{Reason, Environment, Taken}
 use Rattle.mt_term.specs.Naming.{Naming, find, named}
 use Rattle.mt_unit_parser.specs.declared.units.RawCon.{RawCon}
 use Rattle.mt_unit_parser.specs.UnitOf.{con_of}
-use Rattle.mt_resolver.specs.Resolution.{Resolution, Found, Faults, then_found, first_place, one_further}
+use Rattle.mt_resolver.specs.Resolution.{Found, Faults, first_place, one_further}
 use Rattle.mt_resolver.specs.TableOf.{AreNamesOf}
 use Rattle.mt_decl.specs.Answers.{refuse, taken}
 use Rattle.mt_decl.specs.Declaring.{is_something, stands_in, all_new, constructor_names}

@@ -7,7 +7,7 @@ use Rattle.mt_term.specs.Charges as charges
 use Rattle.mt_term.specs.Charges.{Outcome}
 use Rattle.mt_term.specs.KernelCheck.{check_type, check}
 use Rattle.mt_term.specs.declared.universes.Sort.{Sort as AnySort}
-use Rattle.mt_decl.specs.Answers.{Answer, Made, Refused, Spent, from_kernel, by_kernel}
+use Rattle.mt_decl.specs.Answers.{Made, Refused, Spent, from_kernel}
 use Rattle.mt_decl.specs.EntryLaws.{rest}
 use Rattle.mt_decl.specs.Judging.{type_judged, term_judged}
 use Rattle.mt_decl.proofs.Allowance.{kernel_goes, type_goes, check_goes}

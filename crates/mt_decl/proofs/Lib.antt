@@ -15,3 +15,4 @@ pub mod GrowingRules
 pub mod EndRules
 pub mod UnitRules
 pub mod FunctionRules
+pub mod HoldingRules

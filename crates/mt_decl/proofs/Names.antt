@@ -19,7 +19,7 @@ use Rattle.mt_resolver.proofs.Tables.{or_else, find-append}
 use Rattle.mt_env.specs.Names.{Distinct}
 use Rattle.mt_env.proofs.NameLaws.{distinct_more}
 use Rattle.mt_env.proofs.NamingLaws.{naming_last}
-use Rattle.mt_decl.specs.Answers.{Answering, refuse, taken, by_kernel}
+use Rattle.mt_decl.specs.Answers.{refuse, taken, by_kernel}
 use Rattle.mt_decl.specs.Telescopes.{abstracted, generalized, names_of, result_sort}
 use Rattle.mt_decl.specs.Declaring.{is_something, stands_in, all_new, constructor_names, resolved_groups, or_not_a_sort, or_not_positive, argument_sorts, Family, Declared, one_more, declared_constructor, declared_constructors, declared_axiom, declared_definition, knowing, declared_family, declared_inductive, place_of, or_no_binder, or_not_guarded, assuming, function_rest, declared_recursive, declared_corecursive, declared_function, declared_entry}
 use Rattle.mt_decl.specs.EntryLaws.{DeclaredNamesLaw}

@@ -1,5 +1,5 @@
 -- Answers one after the other, as a program follows them.
-use Rattle.std.specs.Prelude.{ℕ, ◌≡◌, ◌≤◌, List, [], ◌∷◌, suc, zero, drop, Option, Some, None, slice_get, refl}
+use Rattle.std.specs.Prelude.{ℕ, ◌≡◌, ◌≤◌, List, [], ◌∷◌, suc, zero, drop, Some, None, slice_get, refl}
 use Rattle.std.proofs.Common.{ap, arith}
 use Rattle.std.proofs.Math.Seq.{drop-nil}
 use Rattle.mt_term.specs.Charges as charges

@@ -1,11 +1,11 @@
 -- Units, rule by rule, as a program follows them.
-use Rattle.std.specs.Prelude.{ℕ, ◌≡◌, ◌≤◌, Bool, true, false, nat_eq, List, [], ◌∷◌, length, map, drop, Option, Some, None, slice_get, refl}
-use Rattle.std.proofs.Common.{◌∙◌, ap, sym, arith}
+use Rattle.std.specs.Prelude.{ℕ, ◌≡◌, ◌≤◌, Bool, true, false, nat_eq, List, [], ◌∷◌, length, map, drop, Some, None, slice_get, refl}
+use Rattle.std.proofs.Common.{◌∙◌, ap, arith}
 use Rattle.std.proofs.lemmas.Bool.{eqb-true}
 use Rattle.mt_term.proofs.Images.{none_some}
 use Rattle.mt_term.specs.Trees.{Bytes, Tree}
 use Rattle.mt_term.specs.declared.universes.Sort.{Sort as AnySort}
-use Rattle.mt_term.specs.Declarations.{Reason, Hypothesis, Declaration, Axiom, Definition, Environment, NotHere}
+use Rattle.mt_term.specs.Declarations.{Reason, Declaration, Axiom, Definition, Environment, NotHere}
 use Rattle.mt_term_parser.specs.Written.{Written, Absent, Given}
 use Rattle.mt_term_parser.specs.declared.raw.Raw.{Raw}
 use Rattle.mt_term_parser.specs.WrittenOf.{written_of}
@@ -17,9 +17,9 @@ use Rattle.mt_unit_parser.specs.WrittenUnits as unit
 use Rattle.mt_tactical.specs.Tacticals.{Sequence}
 use Rattle.mt_tiny.specs.declared.Tiny.{Tiny}
 use Rattle.mt_unit_parser.specs.WrittenUnits.{WrittenAction, WrittenEq, WrittenGroup, WrittenKind}
-use Rattle.mt_resolver.specs.Resolution.{Resolution, Found, Faults, then_found, resolved}
+use Rattle.mt_resolver.specs.Resolution.{Resolution, Found, Faults, resolved}
 use Rattle.mt_decl.specs.Answers.{Answer, Made, Refused, Spent, Answering, and_then, make, taken}
-use Rattle.mt_decl.specs.Declaring.{all_new, constructor_names, declared_corecursive, declared_entry, declared_function, declared_recursive, resolved_groups}
+use Rattle.mt_decl.specs.Declaring.{constructor_names, declared_corecursive, declared_entry, declared_function, declared_recursive}
 use Rattle.mt_decl.specs.EntryLaws.{rest}
 use Rattle.mt_decl.specs.Fronts.{newness, opening, names_in}
 use Rattle.mt_decl.specs.Judging.{type_judged, term_judged}
@@ -30,7 +30,7 @@ use Rattle.mt_decl.specs.declared.groups.End.{End}
 use Rattle.mt_decl.specs.declared.groups.End.TheVariants as end
 use Rattle.mt_decl.proofs.Allowance.{axiom_goes, definition_goes, entry_goes}
 use Rattle.mt_decl.proofs.FrontRules.{constructor_names_in, new_taken}
-use Rattle.mt_decl.proofs.JudgingRules.{type-rest, term-rest}
+use Rattle.mt_decl.proofs.JudgingRules.{term-rest}
 use Rattle.mt_decl.proofs.EndRules.{walk-rest}
 use Rattle.mt_decl.proofs.Sequences.{taken_rest, taken_then, then_rest}
 

@@ -44,6 +44,7 @@ pub fn declare_type<L: Ledger>(
     co: bool,
     ty: &RawType,
     left: &mut u64,
+    deep: usize,
     steps: &mut Steps<L>,
 ) -> Result<Entry, Halt>
     requires names { AreNamesOf names.old env.old.entries }
@@ -67,7 +68,7 @@ pub fn declare_type<L: Ledger>(
     };
     let closed = generalized(alloc, params, arity, MOST_DEEP)?;
     declare_closed(
-        alloc, pool, env, names, start, scope, params, co, ty, closed, &sort, left, steps,
+        alloc, pool, env, names, start, scope, params, co, ty, closed, &sort, left, deep, steps,
     )
 }
 
@@ -86,6 +87,7 @@ fn declare_closed<L: Ledger>(
     closed: Term,
     sort: &Sort,
     left: &mut u64,
+    deep: usize,
     steps: &mut Steps<L>,
 ) -> Result<Entry, Halt>
     requires names { AreNamesOf names.old env.old.entries }
@@ -99,7 +101,7 @@ fn declare_closed<L: Ledger>(
     let _left = *left;
     judge_type(alloc, env, start, &closed, left, steps)?;
     declare_family(
-        alloc, pool, env, names, start, scope, params, co, ty, closed, sort, left, steps,
+        alloc, pool, env, names, start, scope, params, co, ty, closed, sort, left, deep, steps,
     )
 }
 
@@ -118,6 +120,7 @@ fn declare_family<L: Ledger>(
     closed: Term,
     sort: &Sort,
     left: &mut u64,
+    deep: usize,
     steps: &mut Steps<L>,
 ) -> Result<Entry, Halt>
     requires names { AreNamesOf names.old env.old.entries }
@@ -138,7 +141,7 @@ fn declare_family<L: Ledger>(
         sort,
     };
     let (cons, large) = declare_inside(
-        alloc, pool, env, names, start, scope, &family, many, co, ty, left, steps,
+        alloc, pool, env, names, start, scope, &family, many, co, ty, left, deep, steps,
     )?;
     Ok(Entry::Inductive {
         name,
@@ -164,6 +167,7 @@ fn declare_inside<L: Ledger>(
     co: bool,
     ty: &RawType,
     left: &mut u64,
+    deep: usize,
     steps: &mut Steps<L>,
 ) -> Result<(Cons, bool), Halt>
     requires names { AreNamesOf names.old env.old.entries }
@@ -177,7 +181,7 @@ fn declare_inside<L: Ledger>(
     let entries = env.entries.len();
     let known = names.len();
     let declared = declare_known(
-        alloc, pool, env, names, start, scope, family, many, co, ty, left, steps,
+        alloc, pool, env, names, start, scope, family, many, co, ty, left, deep, steps,
     );
     leave(env, names, entries, known);
     declared
@@ -197,6 +201,7 @@ fn declare_known<L: Ledger>(
     co: bool,
     ty: &RawType,
     left: &mut u64,
+    deep: usize,
     steps: &mut Steps<L>,
 ) -> Result<(Cons, bool), Halt>
     requires names { AreNamesOf names.old env.old.entries }
@@ -213,8 +218,7 @@ fn declare_known<L: Ledger>(
     let only = ty.cons.len() == 1;
     let none = (Cons::new(alloc), true);
     declare_constructors(
-        alloc, pool, env, names, start, scope, family, only, &ty.cons, 0, none, left, MOST_DEEP,
-        steps,
+        alloc, pool, env, names, start, scope, family, only, &ty.cons, 0, none, left, deep, steps,
     )
 }
 

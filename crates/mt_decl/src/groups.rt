@@ -67,7 +67,7 @@ pub fn with_groups<L: Ledger>(
     let deep = deeper(deep)?;
     match groups.get(from) {
         None => declare_end(
-            alloc, pool, held, env, names, start, scope, binders, end, left, steps,
+            alloc, pool, held, env, names, start, scope, binders, end, left, deep, steps,
         ),
         Some(group) => {
             let next = from.checked_add(1).ok_or(OutOfMemory)?;
@@ -94,6 +94,7 @@ fn declare_end<L: Ledger>(
     binders: &Telescope<'_>,
     end: End<'_>,
     left: &mut u64,
+    deep: usize,
     steps: &mut Steps<L>,
 ) -> Result<Entry, Halt>
     requires names { AreNamesOf names.old env.old.entries }
@@ -108,7 +109,7 @@ fn declare_end<L: Ledger>(
 {
     match end {
         End::Inductive(co, ty) => declare_type(
-            alloc, pool, env, names, start, scope, binders, co, ty, left, steps,
+            alloc, pool, env, names, start, scope, binders, co, ty, left, deep, steps,
         ),
         End::Recursive(function, on) => declare_recursive(
             alloc, pool, held, env, names, start, scope, binders, function, on, left, steps,

@@ -1,5 +1,5 @@
 // Each public call, with ample memory.
-use crate::{Env, EnvStop, Ref};
+use crate::{Env, EnvStop, Ref, hold};
 use mt_pool::{Held, Pool};
 use mt_term::{Cons, Constructor, Entry, Name, Sort, Term};
 use mt_universe::GraphStop;
@@ -123,5 +123,18 @@ fn an_environment_as_trees(rt: HostRuntime) -> Result<(), Fail> {
     let plain = env.plain(alloc, &pool, &mark)?;
     assert_eq!(rt; plain.entries.len(), 1);
     assert!(rt; env.type_of(Ref::Ind(0)).at < pool.len());
+    Ok(())
+}
+
+#[test]
+fn an_entry_is_held_by_ids(rt: HostRuntime) -> Result<(), Fail> {
+    let alloc = rt.alloc();
+    let mut pool = Pool::new(alloc);
+    let entry = axiom(alloc, b"x", Term::Sort(Sort::Prop))?;
+    let held = hold(alloc, &mut pool, &entry)?;
+    assert!(rt; matches!(&held, Held::Axiom { name, .. } if name.as_bytes() == b"x".as_slice()));
+    let entry = pair(alloc, b"or2", b"l", b"r")?;
+    let held = hold(alloc, &mut pool, &entry)?;
+    assert!(rt; matches!(&held, Held::Inductive { cons, large: false, .. } if cons.len() == 2));
     Ok(())
 }

@@ -12,7 +12,7 @@ ghost use Rattle.mt_term.specs.EnvironmentOf.{environment_of};
 ghost use Rattle.mt_term.specs.Inference.{branch_context, constant_type, constructor_type, elimination, inductive_type, infer, infer_arms, product_of, sort_of, type_head};
 ghost use Rattle.mt_term.specs.Stores.{no_store};
 ghost use Rattle.mt_term.specs.TreeOf.{arms_of, tree_of, trees_of};
-ghost use Rattle.mt_term.specs.Trees.{Match, Prod};
+ghost use Rattle.mt_term.specs.Trees.{App, Con, Const, Ind, Lam, Match, Prod, Sort as SortTree, Var};
 
 use crate::branches::{branch_goal, bullets, has_branches};
 use crate::charges::charge;
@@ -47,66 +47,224 @@ pub fn infer<L: Ledger>(
 {
     let _left = *left;
     let deep = deeper(deep)?;
-    if let Term::Match(number, returns, c, branches) = t {
-        return infer_match(
-            alloc, env, context, *number, returns, c, branches, left, deep, steps,
-        );
-    }
-    charge(left, steps)?;
     match t {
-        Term::Var(i) => match type_at(alloc, context, *i)? {
-            Some(ty) => Ok(ty),
-            None => Err(Stop::Refused(Refusal::Unbound(Name::new(alloc)))),
-        },
-        Term::Sort(s) => match sort_above(alloc, s)? {
-            Some(above) => Ok(Term::Sort(above)),
-            None => Err(Stop::Refused(Refusal::NotASort)),
-        },
-        Term::Prod(x, a, b) => {
-            let s = sort_of(alloc, env, context, a, left, deep, steps)?;
-            let inner = Context::More(&*x, &*a, &*context);
-            let r = sort_of(alloc, env, &inner, b, left, deep, steps)?;
-            Ok(Term::Sort(sort_of_product(alloc, s, r)?))
+        Term::Var(i) => infer_variable(alloc, env, context, *i, left, steps),
+        Term::Sort(s) => infer_sort(alloc, env, context, s, left, steps),
+        Term::Prod(x, a, b) => infer_product(alloc, env, context, x, a, b, left, deep, steps),
+        Term::Lam(x, a, b) => infer_abstraction(alloc, env, context, x, a, b, left, deep, steps),
+        Term::App(f, a) => infer_application(alloc, env, context, f, a, left, deep, steps),
+        Term::Const(n) => infer_constant(alloc, env, context, *n, left, steps),
+        Term::Ind(e) => infer_inductive(alloc, env, context, *e, left, steps),
+        Term::Con(e, k) => infer_constructor(alloc, env, context, *e, *k, left, steps),
+        Term::Match(number, returns, c, branches) => infer_match(
+            alloc, env, context, *number, returns, c, branches, left, deep, steps,
+        ),
+        Term::Meta(..) => {
+            // there is no metavariable
+            charge(left, steps)?;
+            Err(Stop::Refused(Refusal::Unbound(Name::new(alloc))))
         }
-        Term::Lam(x, a, b) => {
-            sort_of(alloc, env, context, a, left, deep, steps)?;
-            let inner = Context::More(&*x, &*a, &*context);
-            let ty = infer(alloc, env, &inner, b, left, deep, steps)?;
-            Ok(product_to(alloc, x, a, ty)?)
-        }
-        Term::App(f, a) => {
-            let product = product_of(alloc, env, context, f, left, deep, steps)?;
-            let ty = infer(alloc, env, context, a, left, deep, steps)?;
-            agree(
-                alloc,
-                env,
-                context,
-                Mode::AtMost,
-                ty,
-                &product.domain,
-                left,
-                deep,
-                steps,
-            )?;
-            Ok(substitute(alloc, &product.codomain, 0, a)?)
-        }
-        Term::Const(n) => match constant_type(alloc, env.entries.get(*n))? {
-            Some(ty) => Ok(ty),
-            None => Err(Stop::Refused(Refusal::Unbound(Name::new(alloc)))),
-        },
-        Term::Ind(e) => match inductive_type(alloc, env.entries.get(*e))? {
-            Some(ty) => Ok(ty),
-            None => Err(Stop::Refused(Refusal::Unbound(Name::new(alloc)))),
-        },
-        Term::Con(e, k) => {
-            match constructor_type(alloc, constructor_at(&env.entries, *e, *k))? {
-                Some(ty) => Ok(ty),
-                None => Err(Stop::Refused(Refusal::Unbound(Name::new(alloc)))),
-            }
-        }
-        // A metavariable: there is none.
-        _ => Err(Stop::Refused(Refusal::Unbound(Name::new(alloc)))),
     }
+}
+
+/// The type of a variable.
+#[inline(never)]
+#[tactic(auto, using(crate::proofs::Inferring::inference_rules))]
+fn infer_variable<L: Ledger>(
+    alloc: Global,
+    env: &PlainEnv,
+    context: &Context<'_>,
+    i: usize,
+    left: &mut u64,
+    steps: &mut Steps<L>,
+) -> Result<Term, Stop>
+    ensures answer { Answers tree_of (infer (environment_of env.now) no_store (hypotheses_of context.now) (Var i) left.old) left.new result }
+    ensures cost { steps.new + left.new ≡ steps.old + left.old }
+{
+    let _left = *left;
+    charge(left, steps)?;
+    match type_at(alloc, context, i)? {
+        Some(ty) => Ok(ty),
+        None => Err(Stop::Refused(Refusal::Unbound(Name::new(alloc)))),
+    }
+}
+
+/// The sort of a sort.
+#[inline(never)]
+#[tactic(auto, using(crate::proofs::Inferring::inference_rules))]
+fn infer_sort<L: Ledger>(
+    alloc: Global,
+    env: &PlainEnv,
+    context: &Context<'_>,
+    s: &Sort,
+    left: &mut u64,
+    steps: &mut Steps<L>,
+) -> Result<Term, Stop>
+    ensures answer { Answers tree_of (infer (environment_of env.now) no_store (hypotheses_of context.now) (SortTree s.now) left.old) left.new result }
+    ensures cost { steps.new + left.new ≡ steps.old + left.old }
+{
+    let _left = *left;
+    charge(left, steps)?;
+    match sort_above(alloc, s)? {
+        Some(above) => Ok(Term::Sort(above)),
+        None => Err(Stop::Refused(Refusal::NotASort)),
+    }
+}
+
+/// The type of a constant.
+#[inline(never)]
+#[tactic(auto, using(crate::proofs::Inferring::inference_rules))]
+fn infer_constant<L: Ledger>(
+    alloc: Global,
+    env: &PlainEnv,
+    context: &Context<'_>,
+    n: usize,
+    left: &mut u64,
+    steps: &mut Steps<L>,
+) -> Result<Term, Stop>
+    ensures answer { Answers tree_of (infer (environment_of env.now) no_store (hypotheses_of context.now) (Const n) left.old) left.new result }
+    ensures cost { steps.new + left.new ≡ steps.old + left.old }
+{
+    let _left = *left;
+    charge(left, steps)?;
+    match constant_type(alloc, env.entries.get(n))? {
+        Some(ty) => Ok(ty),
+        None => Err(Stop::Refused(Refusal::Unbound(Name::new(alloc)))),
+    }
+}
+
+/// The type of an inductive type.
+#[inline(never)]
+#[tactic(auto, using(crate::proofs::Inferring::inference_rules))]
+fn infer_inductive<L: Ledger>(
+    alloc: Global,
+    env: &PlainEnv,
+    context: &Context<'_>,
+    e: usize,
+    left: &mut u64,
+    steps: &mut Steps<L>,
+) -> Result<Term, Stop>
+    ensures answer { Answers tree_of (infer (environment_of env.now) no_store (hypotheses_of context.now) (Ind e) left.old) left.new result }
+    ensures cost { steps.new + left.new ≡ steps.old + left.old }
+{
+    let _left = *left;
+    charge(left, steps)?;
+    match inductive_type(alloc, env.entries.get(e))? {
+        Some(ty) => Ok(ty),
+        None => Err(Stop::Refused(Refusal::Unbound(Name::new(alloc)))),
+    }
+}
+
+/// The type of a constructor.
+#[inline(never)]
+#[tactic(auto, using(crate::proofs::Inferring::inference_rules))]
+fn infer_constructor<L: Ledger>(
+    alloc: Global,
+    env: &PlainEnv,
+    context: &Context<'_>,
+    e: usize,
+    k: usize,
+    left: &mut u64,
+    steps: &mut Steps<L>,
+) -> Result<Term, Stop>
+    ensures answer { Answers tree_of (infer (environment_of env.now) no_store (hypotheses_of context.now) (Con e k) left.old) left.new result }
+    ensures cost { steps.new + left.new ≡ steps.old + left.old }
+{
+    let _left = *left;
+    charge(left, steps)?;
+    match constructor_type(alloc, constructor_at(&env.entries, e, k))? {
+        Some(ty) => Ok(ty),
+        None => Err(Stop::Refused(Refusal::Unbound(Name::new(alloc)))),
+    }
+}
+
+/// The sort of a product.
+#[cycle(infer)]
+#[inline(never)]
+#[tactic(auto, using(crate::proofs::Inferring::inference_rules))]
+fn infer_product<L: Ledger>(
+    alloc: Global,
+    env: &PlainEnv,
+    context: &Context<'_>,
+    x: &Name,
+    a: &Term,
+    b: &Term,
+    left: &mut u64,
+    deep: usize,
+    steps: &mut Steps<L>,
+) -> Result<Term, Stop>
+    ensures answer { Answers tree_of (infer (environment_of env.now) no_store (hypotheses_of context.now) (Prod x.now (tree_of a.now) (tree_of b.now)) left.old) left.new result }
+    ensures cost { steps.new + left.new ≡ steps.old + left.old }
+{
+    let _left = *left;
+    charge(left, steps)?;
+    let s = sort_of(alloc, env, context, a, left, deep, steps)?;
+    let inner = Context::More(x, a, &*context);
+    let r = sort_of(alloc, env, &inner, b, left, deep, steps)?;
+    Ok(Term::Sort(sort_of_product(alloc, s, r)?))
+}
+
+/// The type of an abstraction.
+#[cycle(infer)]
+#[inline(never)]
+#[tactic(auto, using(crate::proofs::Inferring::inference_rules))]
+fn infer_abstraction<L: Ledger>(
+    alloc: Global,
+    env: &PlainEnv,
+    context: &Context<'_>,
+    x: &Name,
+    a: &Term,
+    b: &Term,
+    left: &mut u64,
+    deep: usize,
+    steps: &mut Steps<L>,
+) -> Result<Term, Stop>
+    ensures answer { Answers tree_of (infer (environment_of env.now) no_store (hypotheses_of context.now) (Lam x.now (tree_of a.now) (tree_of b.now)) left.old) left.new result }
+    ensures cost { steps.new + left.new ≡ steps.old + left.old }
+{
+    let _left = *left;
+    let deep = deeper(deep)?;
+    charge(left, steps)?;
+    sort_of(alloc, env, context, a, left, deep, steps)?;
+    let inner = Context::More(x, a, &*context);
+    let ty = infer(alloc, env, &inner, b, left, deep, steps)?;
+    Ok(product_to(alloc, x, a, ty)?)
+}
+
+/// The type of an application.
+#[cycle(infer)]
+#[inline(never)]
+#[tactic(auto, using(crate::proofs::Inferring::inference_rules))]
+fn infer_application<L: Ledger>(
+    alloc: Global,
+    env: &PlainEnv,
+    context: &Context<'_>,
+    f: &Term,
+    a: &Term,
+    left: &mut u64,
+    deep: usize,
+    steps: &mut Steps<L>,
+) -> Result<Term, Stop>
+    ensures answer { Answers tree_of (infer (environment_of env.now) no_store (hypotheses_of context.now) (App (tree_of f.now) (tree_of a.now)) left.old) left.new result }
+    ensures cost { steps.new + left.new ≡ steps.old + left.old }
+{
+    let _left = *left;
+    charge(left, steps)?;
+    let product = product_of(alloc, env, context, f, left, deep, steps)?;
+    let ty = infer(alloc, env, context, a, left, deep, steps)?;
+    let domain = &product.domain;
+    agree(
+        alloc,
+        env,
+        context,
+        Mode::AtMost,
+        ty,
+        domain,
+        left,
+        deep,
+        steps,
+    )?;
+    Ok(substitute(alloc, &product.codomain, 0, a)?)
 }
 
 /// The product of the type over which a term stands, and of that term's type.

@@ -1,9 +1,10 @@
 // The kernel's calls with ample memory, and the costs of worked terms.
 ghost use Rattle.std.specs.Prelude.{◌≡◌, ◌<◌};
 
-use crate::{Verdict, check, check_type};
+use crate::{Verdict, check, check_sort, check_term, check_type};
 use mt_term::{
-    Atom, Atoms, Entries, Entry, Name, Names, OutOfMemory, Pairs, PlainEnv, Sort, Term, UnivExpr,
+    Atom, Atoms, Entries, Entry, Name, Names, OutOfMemory, Pairs, PlainEnv, Refusal, Sort, Stop,
+    Term, UnivExpr,
 };
 use mt_text::{Ledger, PlainLedger, Steps};
 use std::alloc::{AllocFailed, Global};
@@ -164,5 +165,88 @@ fn each_step_is_counted(rt: HostRuntime) -> Result<(), Fail> {
     assert_eq!(rt; says(alloc, &term, &ty, 11)?, (0, 11));
     assert_eq!(rt; says(alloc, &term, &ty, 10)?, (23, 0));
     assert_eq!(rt; says_of_type(alloc, &ty, 5)?, (0, 5));
+    Ok(())
+}
+
+// What `check_term` answers without entries, and what is left.
+fn term_checked<L: Ledger>(
+    alloc: Global,
+    term: &Term,
+    ty: &Term,
+    allowance: u64,
+    blank: Blank,
+) -> (Result<(), Stop>, u64)
+    requires name { blank.name ≡ L.name }
+    requires parts { blank.parts ≡ L.parts }
+    requires some { 0 < L.parts }
+{
+    let env = empty(alloc);
+    let mut steps = Steps::<L>::new(blank);
+    let mut left = allowance;
+    let answer = check_term(alloc, &env, term, ty, &mut left, &mut steps);
+    (answer, left)
+}
+
+fn of_term(alloc: Global, term: &Term, ty: &Term, allowance: u64) -> (Result<(), Stop>, u64) {
+    term_checked::<PlainLedger>(alloc, term, ty, allowance, Blank::new(1))
+}
+
+#[test]
+fn a_checked_term_leaves_the_rest(rt: HostRuntime) -> Result<(), Fail> {
+    let alloc = rt.alloc();
+    let term = identity(alloc)?;
+    let ty = every(alloc)?;
+    assert!(rt; matches!(of_term(alloc, &term, &ty, 100), (Ok(()), 89)));
+    assert!(rt; matches!(of_term(alloc, &term, &ty, 10), (Err(Stop::Spent), 0)));
+    // 1 for the type, 1 for the term, 1 for the comparison
+    let small = typ(alloc, 0);
+    assert!(rt;
+        matches!(
+            of_term(alloc, &small, &small, 100),
+            (Err(Stop::Refused(Refusal::Mismatch { .. })), 97)
+        )
+    );
+    Ok(())
+}
+
+// What `check_sort` answers without entries, and what is left.
+fn sort_checked<L: Ledger>(
+    alloc: Global,
+    ty: &Term,
+    allowance: u64,
+    blank: Blank,
+) -> (Result<Sort, Stop>, u64)
+    requires name { blank.name ≡ L.name }
+    requires parts { blank.parts ≡ L.parts }
+    requires some { 0 < L.parts }
+{
+    let env = empty(alloc);
+    let mut steps = Steps::<L>::new(blank);
+    let mut left = allowance;
+    let answer = check_sort(alloc, &env, ty, &mut left, &mut steps);
+    (answer, left)
+}
+
+fn of_type(alloc: Global, ty: &Term, allowance: u64) -> (Result<Sort, Stop>, u64) {
+    sort_checked::<PlainLedger>(alloc, ty, allowance, Blank::new(1))
+}
+
+// The two terms have 5 parts, and each of them costs 1.
+#[test]
+fn a_type_has_its_sort_and_leaves_the_rest(rt: HostRuntime) -> Result<(), Fail> {
+    let alloc = rt.alloc();
+    let ty = every(alloc)?;
+    assert!(rt; matches!(of_type(alloc, &ty, 100), (Ok(Sort::Prop), 95)));
+    assert!(rt; matches!(of_type(alloc, &ty, 4), (Err(Stop::Spent), 0)));
+    assert!(rt;
+        matches!(
+            of_type(alloc, &identity(alloc)?, 100),
+            (Err(Stop::Refused(Refusal::NotASort)), 95)
+        )
+    );
+    match of_type(alloc, &typ(alloc, 1), 100) {
+        (Ok(Sort::Typ(u)), 99) => assert!(rt; u.base == 2 && u.atoms.len() == 0),
+        _ => assert!(rt; false, "the sort above Type[1]"),
+    }
     Ok(())
 }

@@ -1,5 +1,7 @@
 // Printed texts of terms and states, and a sink that fails.
-use crate::{PrintStop, print_env, print_goals, print_term};
+use crate::{
+    PrintStop, print_env, print_goals, print_term, printed_instances, put_env, put_goals, put_term,
+};
 use mt_term::{
     Atom, Atoms, Branch, Branches, Cons, Constructor, Entries, Entry, GoalMarks, Hyp, Hyps, Metas,
     Name, Names, Note, Notes, Pairs, PlainEnv, PlainEq, PlainEqs, PlainHint, PlainMeta, PlainProof,
@@ -275,4 +277,28 @@ fn a_failing_sink_has_a_prefix(rt: HostRuntime) {
         Err(PrintStop::WriteFault)
     );
     assert_eq!(rt; sink.bytes(), b"proo".as_slice());
+}
+
+#[test]
+fn texts_are_put_at_the_end(rt: HostRuntime) {
+    let alloc = rt.alloc();
+    let mut notes = Notes::new(alloc);
+    notes.push(Note::Entry(3)).expect(&rt, MEMORY);
+    let state = state(&rt, alloc, notes, None);
+    let scope = names(&rt, alloc, &["y", "z"]);
+    let term = app(&rt, alloc, Term::Var(0), Term::Var(1));
+    let mut out = b"> ".to_vec(alloc).expect(&rt, MEMORY);
+    put_term(alloc, &mut out, &state.env, &scope, &term).expect(&rt, MEMORY);
+    assert_eq!(rt; out.as_slice(), b"> z y".as_slice());
+    put_env(alloc, &mut out, &state).expect(&rt, MEMORY);
+    put_goals(alloc, &mut out, &state).expect(&rt, MEMORY);
+    assert_eq!(rt;
+        out.as_slice(),
+        b"> z yenv 1\naxiom x : nat.\nproof none\n".as_slice()
+    );
+}
+
+#[test]
+fn laws(_rt: HostRuntime) {
+    printed_instances();
 }

@@ -2,7 +2,8 @@
 use crate::{
     Atom, Atoms, Branch, Branches, Cons, Constructor, Entries, Entry, GoalMarks, Hyp, Hyps, Metas,
     Name, Names, Note, Notes, Pairs, PlainEq, PlainEqs, PlainMeta, Refusal, Sort, Term, Terms,
-    UnivExpr, alike, copy, derivations, filled, is_within, lift, reductions, substitute, under,
+    UnivExpr, alike, copy, copy_branches, copy_terms, deeper, derivations, filled, is_within, lift,
+    reductions, substitute, under,
 };
 use std::alloc::{AllocError, Global};
 use std::test::Fail;
@@ -40,6 +41,22 @@ fn a_term_is_copied(rt: HostRuntime) -> Result<(), Fail> {
     let twin = copy(alloc, &term)?;
     assert!(rt; matches!(&twin, Term::Lam(x, _, _) if x.as_bytes() == b"x".as_slice()));
     assert!(rt; is_within(&twin, 5) && !is_within(&twin, 4));
+    Ok(())
+}
+
+#[test]
+fn lists_of_terms_and_branches_are_copied(rt: HostRuntime) -> Result<(), Fail> {
+    let alloc = rt.alloc();
+    let sorts = two_sorts(alloc)?;
+    let twins = copy_terms(alloc, &sorts)?;
+    assert!(rt; alike(&Term::Meta(0, twins), &Term::Meta(0, sorts)));
+    assert!(rt; matches!(&copy_branches(alloc, &Branches::End)?, Branches::End));
+    Ok(())
+}
+
+#[test]
+fn a_step_further_down_takes_one_of_the_depth(rt: HostRuntime) -> Result<(), Fail> {
+    assert!(rt; deeper(2)? == 1 && deeper(0).is_err());
     Ok(())
 }
 

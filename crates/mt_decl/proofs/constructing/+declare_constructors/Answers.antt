@@ -1,5 +1,4 @@
-use Rattle.std.proofs.Common.{◌≡◌, ◌+◌, ◌∙◌, ◌&&◌, ◌++◌, ◌∷◌, [], List, Bool, Some, ap, sym, subst, drop, slice_get}
-use Rattle.mt_term.specs.ConstructorOf.{constructor_of}
+use Rattle.std.proofs.Common.{◌≡◌, ◌∙◌, ◌&&◌, List, Bool, Some, ap, sym, subst, drop, slice_get}
 use Rattle.mt_term.specs.Declarations.{Constructor}
 use Rattle.mt_term.specs.EnvironmentOf.{environment_of}
 use Rattle.mt_term.specs.TreeOf.{tree_of}
