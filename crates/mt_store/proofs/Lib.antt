@@ -1,0 +1,6 @@
+mod AddLaws
+pub mod ChangeLaws
+mod Examples
+pub mod HeldLaws
+mod ReachLaws
+mod SearchLaws

@@ -1,0 +1,5 @@
+pub mod Reach
+pub mod TakingBack
+pub mod Unification
+pub mod UnificationLaws
+pub mod UnificationParts
