@@ -3,9 +3,9 @@ ghost use Rattle.std.specs.Prelude.{◌≡◌, ◌<◌, ◌+◌, length, List, I
 ghost use Rattle.mt_layers.specs.Environments.{environment_in, EnvBelow};
 ghost use Rattle.mt_layers.specs.Meets.{Meets, IsNoRefusal};
 ghost use Rattle.mt_pool.specs.Region.{arms_at, branches_of, ids_of, tree_at, tree_in, trees_at, AllBelow, ArmsBelow, Below, Kept};
+ghost use Rattle.mt_store.specs.Held.{store_in, StoreBelow};
 ghost use Rattle.mt_term.proofs.ComparisonRules.{matches};
 ghost use Rattle.mt_term.specs.Comparison.{bodies, convert, heads, same_shapes, spines, terms};
-ghost use Rattle.mt_term.specs.Stores.{no_store};
 ghost use Rattle.mt_term.specs.Trees.{Tree};
 
 use crate::sorts::sorts_fit;
@@ -31,10 +31,12 @@ pub fn convert<W: Whd, L: Ledger>(
     requires first { t.at < length w.old.pool.now }
     requires second { u.at < length w.old.pool.now }
     requires env_held { EnvBelow (length w.old.pool.now) w.old.env.now }
+    requires store_held { StoreBelow (length w.old.pool.now) w.old.store.now }
     ensures same_pool { w.new.pool.ghost_name ≡ w.old.pool.ghost_name }
     ensures env { w.new.env ≡ w.old.env }
+    ensures store { w.new.store ≡ w.old.store }
     ensures kept { Kept w.old.pool.now w.new.pool.now }
-    ensures outcome { Meets (λ b. b) (convert (environment_in w.old.pool.now w.old.env.now) no_store mode (tree_at w.old.pool.now t) (tree_at w.old.pool.now u) w.old.left) w.new.left result }
+    ensures outcome { Meets (λ b. b) (convert (environment_in w.old.pool.now w.old.env.now) (store_in w.old.pool.now w.old.store.now) mode (tree_at w.old.pool.now t) (tree_at w.old.pool.now u) w.old.left) w.new.left result }
     ensures unrefused { IfErr result (λ e. IsNoRefusal e) }
     ensures cost { steps.new + w.new.left ≡ steps.old + w.old.left }
 {
@@ -64,10 +66,12 @@ fn same_heads_at<W: Whd, L: Ledger>(
     requires first { t.at < length w.old.pool.now }
     requires second { u.at < length w.old.pool.now }
     requires env_held { EnvBelow (length w.old.pool.now) w.old.env.now }
+    requires store_held { StoreBelow (length w.old.pool.now) w.old.store.now }
     ensures same_pool { w.new.pool.ghost_name ≡ w.old.pool.ghost_name }
     ensures env { w.new.env ≡ w.old.env }
+    ensures store { w.new.store ≡ w.old.store }
     ensures kept { Kept w.old.pool.now w.new.pool.now }
-    ensures outcome { Meets (λ b. b) (heads (environment_in w.old.pool.now w.old.env.now) no_store mode (tree_at w.old.pool.now t) (tree_at w.old.pool.now u) w.old.left) w.new.left result }
+    ensures outcome { Meets (λ b. b) (heads (environment_in w.old.pool.now w.old.env.now) (store_in w.old.pool.now w.old.store.now) mode (tree_at w.old.pool.now t) (tree_at w.old.pool.now u) w.old.left) w.new.left result }
     ensures unrefused { IfErr result (λ e. IsNoRefusal e) }
     ensures cost { steps.new + w.new.left ≡ steps.old + w.old.left }
 {
@@ -93,10 +97,12 @@ fn same_heads<W: Whd, L: Ledger>(
     requires first { Below (length w.old.pool.now) t.now }
     requires second { Below (length w.old.pool.now) u.now }
     requires env_held { EnvBelow (length w.old.pool.now) w.old.env.now }
+    requires store_held { StoreBelow (length w.old.pool.now) w.old.store.now }
     ensures same_pool { w.new.pool.ghost_name ≡ w.old.pool.ghost_name }
     ensures env { w.new.env ≡ w.old.env }
+    ensures store { w.new.store ≡ w.old.store }
     ensures kept { Kept w.old.pool.now w.new.pool.now }
-    ensures outcome { Meets (λ b. b) (heads (environment_in w.old.pool.now w.old.env.now) no_store mode (tree_in w.old.pool.now t.now) (tree_in w.old.pool.now u.now) w.old.left) w.new.left result }
+    ensures outcome { Meets (λ b. b) (heads (environment_in w.old.pool.now w.old.env.now) (store_in w.old.pool.now w.old.store.now) mode (tree_in w.old.pool.now t.now) (tree_in w.old.pool.now u.now) w.old.left) w.new.left result }
     ensures unrefused { IfErr result (λ e. IsNoRefusal e) }
     ensures cost { steps.new + w.new.left ≡ steps.old + w.old.left }
 {
@@ -137,10 +143,12 @@ fn same_spine_at<W: Whd, L: Ledger>(
     requires first { t.at < length w.old.pool.now }
     requires second { u.at < length w.old.pool.now }
     requires env_held { EnvBelow (length w.old.pool.now) w.old.env.now }
+    requires store_held { StoreBelow (length w.old.pool.now) w.old.store.now }
     ensures same_pool { w.new.pool.ghost_name ≡ w.old.pool.ghost_name }
     ensures env { w.new.env ≡ w.old.env }
+    ensures store { w.new.store ≡ w.old.store }
     ensures kept { Kept w.old.pool.now w.new.pool.now }
-    ensures outcome { Meets (λ b. b) (spines (environment_in w.old.pool.now w.old.env.now) no_store (tree_at w.old.pool.now t) (tree_at w.old.pool.now u) w.old.left) w.new.left result }
+    ensures outcome { Meets (λ b. b) (spines (environment_in w.old.pool.now w.old.env.now) (store_in w.old.pool.now w.old.store.now) (tree_at w.old.pool.now t) (tree_at w.old.pool.now u) w.old.left) w.new.left result }
     ensures unrefused { IfErr result (λ e. IsNoRefusal e) }
     ensures cost { steps.new + w.new.left ≡ steps.old + w.old.left }
 {
@@ -165,10 +173,12 @@ fn same_spine<W: Whd, L: Ledger>(
     requires first { Below (length w.old.pool.now) t.now }
     requires second { Below (length w.old.pool.now) u.now }
     requires env_held { EnvBelow (length w.old.pool.now) w.old.env.now }
+    requires store_held { StoreBelow (length w.old.pool.now) w.old.store.now }
     ensures same_pool { w.new.pool.ghost_name ≡ w.old.pool.ghost_name }
     ensures env { w.new.env ≡ w.old.env }
+    ensures store { w.new.store ≡ w.old.store }
     ensures kept { Kept w.old.pool.now w.new.pool.now }
-    ensures outcome { Meets (λ b. b) (spines (environment_in w.old.pool.now w.old.env.now) no_store (tree_in w.old.pool.now t.now) (tree_in w.old.pool.now u.now) w.old.left) w.new.left result }
+    ensures outcome { Meets (λ b. b) (spines (environment_in w.old.pool.now w.old.env.now) (store_in w.old.pool.now w.old.store.now) (tree_in w.old.pool.now t.now) (tree_in w.old.pool.now u.now) w.old.left) w.new.left result }
     ensures unrefused { IfErr result (λ e. IsNoRefusal e) }
     ensures cost { steps.new + w.new.left ≡ steps.old + w.old.left }
 {
@@ -231,10 +241,12 @@ fn same_matched<W: Whd, L: Ledger>(
     requires first_held { ArmsBelow (length w.old.pool.now) (branches_of bs.now) }
     requires second_held { ArmsBelow (length w.old.pool.now) (branches_of cs.now) }
     requires env_held { EnvBelow (length w.old.pool.now) w.old.env.now }
+    requires store_held { StoreBelow (length w.old.pool.now) w.old.store.now }
     ensures same_pool { w.new.pool.ghost_name ≡ w.old.pool.ghost_name }
     ensures env { w.new.env ≡ w.old.env }
+    ensures store { w.new.store ≡ w.old.store }
     ensures kept { Kept w.old.pool.now w.new.pool.now }
-    ensures outcome { Meets (λ b. b) (matches (environment_in w.old.pool.now w.old.env.now) no_store (tree_at w.old.pool.now c) (tree_at w.old.pool.now t) (arms_at w.old.pool.now (branches_of bs.now)) (arms_at w.old.pool.now (branches_of cs.now)) w.old.left) w.new.left result }
+    ensures outcome { Meets (λ b. b) (matches (environment_in w.old.pool.now w.old.env.now) (store_in w.old.pool.now w.old.store.now) (tree_at w.old.pool.now c) (tree_at w.old.pool.now t) (arms_at w.old.pool.now (branches_of bs.now)) (arms_at w.old.pool.now (branches_of cs.now)) w.old.left) w.new.left result }
     ensures unrefused { IfErr result (λ e. IsNoRefusal e) }
     ensures cost { steps.new + w.new.left ≡ steps.old + w.old.left }
 {
@@ -260,10 +272,12 @@ fn same_terms<W: Whd, L: Ledger>(
     requires first { AllBelow (length w.old.pool.now) (ids_of s.now) }
     requires second { AllBelow (length w.old.pool.now) (ids_of r.now) }
     requires env_held { EnvBelow (length w.old.pool.now) w.old.env.now }
+    requires store_held { StoreBelow (length w.old.pool.now) w.old.store.now }
     ensures same_pool { w.new.pool.ghost_name ≡ w.old.pool.ghost_name }
     ensures env { w.new.env ≡ w.old.env }
+    ensures store { w.new.store ≡ w.old.store }
     ensures kept { Kept w.old.pool.now w.new.pool.now }
-    ensures outcome { Meets (λ b. b) (terms (environment_in w.old.pool.now w.old.env.now) no_store (trees_at w.old.pool.now (ids_of s.now)) (trees_at w.old.pool.now (ids_of r.now)) w.old.left) w.new.left result }
+    ensures outcome { Meets (λ b. b) (terms (environment_in w.old.pool.now w.old.env.now) (store_in w.old.pool.now w.old.store.now) (trees_at w.old.pool.now (ids_of s.now)) (trees_at w.old.pool.now (ids_of r.now)) w.old.left) w.new.left result }
     ensures unrefused { IfErr result (λ e. IsNoRefusal e) }
     ensures cost { steps.new + w.new.left ≡ steps.old + w.old.left }
 {
@@ -296,10 +310,12 @@ fn same_bodies<W: Whd, L: Ledger>(
     requires first { ArmsBelow (length w.old.pool.now) (branches_of bs.now) }
     requires second { ArmsBelow (length w.old.pool.now) (branches_of cs.now) }
     requires env_held { EnvBelow (length w.old.pool.now) w.old.env.now }
+    requires store_held { StoreBelow (length w.old.pool.now) w.old.store.now }
     ensures same_pool { w.new.pool.ghost_name ≡ w.old.pool.ghost_name }
     ensures env { w.new.env ≡ w.old.env }
+    ensures store { w.new.store ≡ w.old.store }
     ensures kept { Kept w.old.pool.now w.new.pool.now }
-    ensures outcome { Meets (λ b. b) (bodies (environment_in w.old.pool.now w.old.env.now) no_store (arms_at w.old.pool.now (branches_of bs.now)) (arms_at w.old.pool.now (branches_of cs.now)) w.old.left) w.new.left result }
+    ensures outcome { Meets (λ b. b) (bodies (environment_in w.old.pool.now w.old.env.now) (store_in w.old.pool.now w.old.store.now) (arms_at w.old.pool.now (branches_of bs.now)) (arms_at w.old.pool.now (branches_of cs.now)) w.old.left) w.new.left result }
     ensures unrefused { IfErr result (λ e. IsNoRefusal e) }
     ensures cost { steps.new + w.new.left ≡ steps.old + w.old.left }
 {

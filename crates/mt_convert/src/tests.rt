@@ -6,6 +6,7 @@ use mt_env::Env;
 use mt_layers::{Convert, Work};
 use mt_pool::Pool;
 use mt_reduce::Reducer;
+use mt_store::Store;
 use mt_term::{Atoms, Mode, Name, OutOfMemory, Sort, Stop, Term, UnivExpr};
 use mt_text::{Ledger, PlainLedger, Steps};
 use std::alloc::{AllocFailed, Global};
@@ -29,11 +30,13 @@ fn compared<L: Ledger>(
     let mut steps = Steps::<L>::new(blank);
     let mut pool = Pool::new(alloc);
     let env = Env::new(alloc);
+    let mut store = Store::new(alloc);
     let t = pool.import(alloc, t)?;
     let u = pool.import(alloc, u)?;
     let mut w = Work {
         pool: &mut pool,
         env: &env,
+        store: &mut store,
         left: allowance,
     };
     match Comparer::new(Reducer::new()).convert(alloc, &mut w, mode, t, u, &mut steps) {

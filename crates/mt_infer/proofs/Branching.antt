@@ -1,5 +1,5 @@
 -- Branches against constructors and types, as the code goes down their lists.
-use Rattle.std.proofs.Common.{ℕ, zero, suc, ◌≡◌, ◌+◌, ◌≤◌, List, [], ◌∷◌, length, Option, Some, None, Bool, true, false, ◌&&◌, nat_eq, drop, slice_get, refl, ap, ◌∙◌, sym, add-one, arith}
+use Rattle.std.proofs.Common.{ℕ, suc, ◌≡◌, ◌+◌, ◌≤◌, List, [], ◌∷◌, length, Option, Some, None, Bool, true, false, ◌&&◌, nat_eq, drop, slice_get, refl, ap, ◌∙◌, sym, add-one, arith}
 use Rattle.mt_term.specs.Trees.{Bytes, Tree, Trees, Arms, Var, Sort, Prod, Lam, App, Const, Ind, Con, Match, Meta, End, NoArm, Arm}
 use Rattle.mt_term.specs.declared.universes.Sort.{Sort as AnySort}
 use Rattle.mt_term.specs.declared.modes.Mode.TheVariants.{AtMost}
@@ -8,7 +8,7 @@ use Rattle.mt_term.specs.Declarations.{Constructor, Hypothesis, Environment, Rea
 use Rattle.mt_term.specs.Charges.{Outcome, Charged, Done, Refused, Spent, and_then, rest}
 use Rattle.mt_term.specs.Contraction.{products}
 use Rattle.mt_term.specs.Spines.{as_ind, at_args}
-use Rattle.mt_term.specs.Stores.{no_store}
+use Rattle.mt_term.specs.Stores.{Store}
 use Rattle.mt_term.specs.Inference.{Family, constructor_type, eliminable, infer, agreement, infer_arms, branches_fit, branch_context, branch_type, return_at}
 use Rattle.mt_term.proofs.Charged.{then-rest, then-then}
 use Rattle.mt_term.proofs.InferenceLaws.{infer-rest}
@@ -128,25 +128,25 @@ params_held m f h = h.0
 pub ruleset goal_rules = (goal_out, goal_untyped, goal_typed, params_held)
 
 -- a body against its type
-module _ (E : Environment) (Γ : List Hypothesis) (t v : Tree) (n : ℕ) where
-  pub fits_spent : infer E no_store Γ t n ≡ Spent → fits E Γ t v n ≡ Spent
+module _ (E : Environment) (S : Store) (Γ : List Hypothesis) (t v : Tree) (n : ℕ) where
+  pub fits_spent : infer E S Γ t n ≡ Spent → fits E S Γ t v n ≡ Spent
   unfolding fits
-  fits_spent e = ap (λ o. and_then o (λ u. agreement E no_store Γ AtMost u v)) e
+  fits_spent e = ap (λ o. and_then o (λ u. agreement E S Γ AtMost u v)) e
 
-  pub fits_refused : (q : Reason) (l : ℕ) → infer E no_store Γ t n ≡ Refused q l → fits E Γ t v n ≡ Refused q l
+  pub fits_refused : (q : Reason) (l : ℕ) → infer E S Γ t n ≡ Refused q l → fits E S Γ t v n ≡ Refused q l
   unfolding fits
-  fits_refused q l e = ap (λ o. and_then o (λ u. agreement E no_store Γ AtMost u v)) e
+  fits_refused q l e = ap (λ o. and_then o (λ u. agreement E S Γ AtMost u v)) e
 
-  pub fits_done : (u : Tree) (l : ℕ) → infer E no_store Γ t n ≡ Done u l → fits E Γ t v n ≡ agreement E no_store Γ AtMost u v l
+  pub fits_done : (u : Tree) (l : ℕ) → infer E S Γ t n ≡ Done u l → fits E S Γ t v n ≡ agreement E S Γ AtMost u v l
   unfolding fits
-  fits_done u l e = ap (λ o. and_then o (λ u. agreement E no_store Γ AtMost u v)) e
+  fits_done u l e = ap (λ o. and_then o (λ u. agreement E S Γ AtMost u v)) e
 
-  pub fits_within : rest (fits E Γ t v n) ≤ rest (infer E no_store Γ t n)
+  pub fits_within : rest (fits E S Γ t v n) ≤ rest (infer E S Γ t n)
   unfolding fits
-  fits_within = then-rest (infer E no_store Γ t n) _ (λ u l. agreement-rest E no_store Γ AtMost u v l)
+  fits_within = then-rest (infer E S Γ t n) _ (λ u l. agreement-rest E S Γ AtMost u v l)
 
-  pub fits_rest : rest (fits E Γ t v n) ≤ n
-  fits_rest = omega (arith, fits_within, infer-rest E no_store Γ t n)
+  pub fits_rest : rest (fits E S Γ t v n) ≤ n
+  fits_rest = omega (arith, fits_within, infer-rest E S Γ t n)
 
   -- in the context of a branch under the names from a place on
   context_end : (u : Tree) → branch_context Γ u [] ≡ Γ
@@ -161,37 +161,37 @@ module _ (E : Environment) (Γ : List Hypothesis) (t v : Tree) (n : ℕ) where
   context_end (Match e q d bs) = refl
   context_end (Meta m s) = refl
 
-  pub fits_end : (u : Tree) (xs : List Bytes) (i : ℕ) → slice_get xs i ≡ None → fits E (branch_context Γ u (drop i xs)) t v n ≡ fits E Γ t v n
-  fits_end u xs i e = ap (λ q. fits E (branch_context Γ u q) t v n) (drop_none xs i e) ∙ ap (λ q. fits E q t v n) (context_end u)
+  pub fits_end : (u : Tree) (xs : List Bytes) (i : ℕ) → slice_get xs i ≡ None → fits E S (branch_context Γ u (drop i xs)) t v n ≡ fits E S Γ t v n
+  fits_end u xs i e = ap (λ q. fits E S (branch_context Γ u q) t v n) (drop_none xs i e) ∙ ap (λ q. fits E S q t v n) (context_end u)
 
-  pub fits_more : (xs : List Bytes) (i : ℕ) (x : Bytes) (y : Bytes) (a b : Tree) → slice_get xs i ≡ Some x → fits E (branch_context Γ (Prod y a b) (drop i xs)) t v n ≡ fits E (branch_context (record { name = x; ty = a } ∷ Γ) b (drop (i + 1) xs)) t v n
-  fits_more xs i x y a b e = ap (λ q. fits E (branch_context Γ (Prod y a b) q) t v n) (drop_at xs i x e)
+  pub fits_more : (xs : List Bytes) (i : ℕ) (x : Bytes) (y : Bytes) (a b : Tree) → slice_get xs i ≡ Some x → fits E S (branch_context Γ (Prod y a b) (drop i xs)) t v n ≡ fits E S (branch_context (record { name = x; ty = a } ∷ Γ) b (drop (i + 1) xs)) t v n
+  fits_more xs i x y a b e = ap (λ q. fits E S (branch_context Γ (Prod y a b) q) t v n) (drop_at xs i x e)
 
-  pub fits_var : (i : ℕ) (xs : List Bytes) → fits E (branch_context Γ (Var i) xs) t v n ≡ fits E Γ t v n
+  pub fits_var : (i : ℕ) (xs : List Bytes) → fits E S (branch_context Γ (Var i) xs) t v n ≡ fits E S Γ t v n
   fits_var i xs = refl
 
-  pub fits_sort : (s : AnySort) (xs : List Bytes) → fits E (branch_context Γ (Sort s) xs) t v n ≡ fits E Γ t v n
+  pub fits_sort : (s : AnySort) (xs : List Bytes) → fits E S (branch_context Γ (Sort s) xs) t v n ≡ fits E S Γ t v n
   fits_sort s xs = refl
 
-  pub fits_lam : (y : Bytes) (a b : Tree) (xs : List Bytes) → fits E (branch_context Γ (Lam y a b) xs) t v n ≡ fits E Γ t v n
+  pub fits_lam : (y : Bytes) (a b : Tree) (xs : List Bytes) → fits E S (branch_context Γ (Lam y a b) xs) t v n ≡ fits E S Γ t v n
   fits_lam y a b xs = refl
 
-  pub fits_app : (f a : Tree) (xs : List Bytes) → fits E (branch_context Γ (App f a) xs) t v n ≡ fits E Γ t v n
+  pub fits_app : (f a : Tree) (xs : List Bytes) → fits E S (branch_context Γ (App f a) xs) t v n ≡ fits E S Γ t v n
   fits_app f a xs = refl
 
-  pub fits_const : (c : ℕ) (xs : List Bytes) → fits E (branch_context Γ (Const c) xs) t v n ≡ fits E Γ t v n
+  pub fits_const : (c : ℕ) (xs : List Bytes) → fits E S (branch_context Γ (Const c) xs) t v n ≡ fits E S Γ t v n
   fits_const c xs = refl
 
-  pub fits_ind : (e : ℕ) (xs : List Bytes) → fits E (branch_context Γ (Ind e) xs) t v n ≡ fits E Γ t v n
+  pub fits_ind : (e : ℕ) (xs : List Bytes) → fits E S (branch_context Γ (Ind e) xs) t v n ≡ fits E S Γ t v n
   fits_ind e xs = refl
 
-  pub fits_con : (e k : ℕ) (xs : List Bytes) → fits E (branch_context Γ (Con e k) xs) t v n ≡ fits E Γ t v n
+  pub fits_con : (e k : ℕ) (xs : List Bytes) → fits E S (branch_context Γ (Con e k) xs) t v n ≡ fits E S Γ t v n
   fits_con e k xs = refl
 
-  pub fits_match : (e : ℕ) (q d : Tree) (bs : Arms) (xs : List Bytes) → fits E (branch_context Γ (Match e q d bs) xs) t v n ≡ fits E Γ t v n
+  pub fits_match : (e : ℕ) (q d : Tree) (bs : Arms) (xs : List Bytes) → fits E S (branch_context Γ (Match e q d bs) xs) t v n ≡ fits E S Γ t v n
   fits_match e q d bs xs = refl
 
-  pub fits_meta : (m : ℕ) (s : Trees) (xs : List Bytes) → fits E (branch_context Γ (Meta m s) xs) t v n ≡ fits E Γ t v n
+  pub fits_meta : (m : ℕ) (s : Trees) (xs : List Bytes) → fits E S (branch_context Γ (Meta m s) xs) t v n ≡ fits E S Γ t v n
   fits_meta m s xs = refl
 
 pub ruleset fits_rules = (infer-rest, agreement-rest, fits_rest, fits_spent, fits_refused, fits_done, fits_within)
@@ -199,20 +199,20 @@ pub ruleset fits_rules = (infer-rest, agreement-rest, fits_rest, fits_spent, fit
 pub ruleset branch_rules = (fits_rest, fits_end, fits_more, fits_var, fits_sort, fits_lam, fits_app, fits_const, fits_ind, fits_con, fits_match, fits_meta)
 
 -- a branch by its goal
-module _ (E : Environment) (Γ : List Hypothesis) (f : Family) (r : Tree) (k : ℕ) (T : Tree) (xs : List Bytes) (b : Tree) (n : ℕ) where
-  pub goalless : branch_goal f k T r xs ≡ None → branch_fits E Γ f r k T xs b n ≡ Refused BadElimination n
+module _ (E : Environment) (S : Store) (Γ : List Hypothesis) (f : Family) (r : Tree) (k : ℕ) (T : Tree) (xs : List Bytes) (b : Tree) (n : ℕ) where
+  pub goalless : branch_goal f k T r xs ≡ None → branch_fits E S Γ f r k T xs b n ≡ Refused BadElimination n
   unfolding branch_fits
-  goalless g = ap (λ o. goal_fits E Γ xs b o n) g
+  goalless g = ap (λ o. goal_fits E S Γ xs b o n) g
 
-  pub by_goal : (u v : Tree) → branch_goal f k T r xs ≡ Some (goal u v) → branch_fits E Γ f r k T xs b n ≡ fits E (branch_context Γ u xs) b v n
+  pub by_goal : (u v : Tree) → branch_goal f k T r xs ≡ Some (goal u v) → branch_fits E S Γ f r k T xs b n ≡ fits E S (branch_context Γ u xs) b v n
   unfolding branch_fits
-  by_goal u v g = ap (λ o. goal_fits E Γ xs b o n) g
+  by_goal u v g = ap (λ o. goal_fits E S Γ xs b o n) g
 
-  goal_rest : (o : Option Goal) → rest (goal_fits E Γ xs b o n) ≤ n
+  goal_rest : (o : Option Goal) → rest (goal_fits E S Γ xs b o n) ≤ n
   goal_rest None = omega arith
-  goal_rest (Some g) = fits_rest E (branch_context Γ g.own xs) b g.ty n
+  goal_rest (Some g) = fits_rest E S (branch_context Γ g.own xs) b g.ty n
 
-  pub branch_fits_rest : rest (branch_fits E Γ f r k T xs b n) ≤ n
+  pub branch_fits_rest : rest (branch_fits E S Γ f r k T xs b n) ≤ n
   unfolding branch_fits
   branch_fits_rest = goal_rest (branch_goal f k T r xs)
 
@@ -222,70 +222,70 @@ on_done : {A B : Type 0} (o : Outcome A) (f : A → Charged B) {a : A} {l : ℕ}
 on_done o f e g = ap (λ o. and_then o f) e ∙ g
 
 -- the branches from a place on, each by its body
-module _ (E : Environment) (Γ : List Hypothesis) (f : Family) (r : Tree) (j : ℕ) (bs : Arms) (n : ℕ) where
+module _ (E : Environment) (S : Store) (Γ : List Hypothesis) (f : Family) (r : Tree) (j : ℕ) (bs : Arms) (n : ℕ) where
   abbrev cs : List Constructor
   cs = f.constructors
 
-  pub arms_rest : rest (arms_from E Γ f r j bs n) ≤ n
+  pub arms_rest : rest (arms_from E S Γ f r j bs n) ≤ n
   unfolding arms_from
-  arms_rest = infer_arms-rest E no_store Γ f r j (drop j cs) bs n
+  arms_rest = infer_arms-rest E S Γ f r j (drop j cs) bs n
 
-  pub arms_past : declared f j ≡ None → arms_from E Γ f r j bs n ≡ Done tt n
+  pub arms_past : declared f j ≡ None → arms_from E S Γ f r j bs n ≡ Done tt n
   unfolding arms_from declared
-  arms_past h = ap (λ q. infer_arms E no_store Γ f r j q bs n) (drop_none cs j (unnamed _ h)) ∙ infer_arms-none E no_store Γ f r j bs n
+  arms_past h = ap (λ q. infer_arms E S Γ f r j q bs n) (drop_none cs j (unnamed _ h)) ∙ infer_arms-none E S Γ f r j bs n
 
   module _ (T : Tree) (xs : List Bytes) (b : Tree) (known : constructor_type (slice_get cs j) ≡ Some T) where
     abbrev y : Bytes
     y = (named _ T known).0
 
-    at : infer_arms E no_store Γ f r j (drop j cs) (Arm xs b bs) n ≡ infer_arms E no_store Γ f r j (constructor y T ∷ drop (j + 1) cs) (Arm xs b bs) n
-    at = ap (λ q. infer_arms E no_store Γ f r j q (Arm xs b bs) n) (drop_at cs j _ (named _ T known).1)
+    at : infer_arms E S Γ f r j (drop j cs) (Arm xs b bs) n ≡ infer_arms E S Γ f r j (constructor y T ∷ drop (j + 1) cs) (Arm xs b bs) n
+    at = ap (λ q. infer_arms E S Γ f r j q (Arm xs b bs) n) (drop_at cs j _ (named _ T known).1)
 
     abbrev onward : Unit {0} → Charged (Unit {0})
-    onward z = infer_arms E no_store Γ f r (suc j) (drop (j + 1) cs) bs
+    onward z = infer_arms E S Γ f r (suc j) (drop (j + 1) cs) bs
 
     fitted : (u : Tree) → at_args T f.params ≡ Some u → (v : Tree) → branch_type (count f.params) r (apps (Con f.number j) f.params) u xs ≡ Some v
-        → infer_arms E no_store Γ f r j (constructor y T ∷ drop (j + 1) cs) (Arm xs b bs) n ≡ and_then (fits E (branch_context Γ u xs) b v n) onward
+        → infer_arms E S Γ f r j (constructor y T ∷ drop (j + 1) cs) (Arm xs b bs) n ≡ and_then (fits E S (branch_context Γ u xs) b v n) onward
     unfolding infer_arms infer agreement fits
     fitted u o v g =
         on_done _ _ (ap (λ q. eliminable q n) o) (on_done _ _ (ap (λ q. eliminable q n) g)
-        (sym (then-then (infer E no_store (branch_context Γ u xs) b n) (λ t. agreement E no_store (branch_context Γ u xs) AtMost t v) onward)))
+        (sym (then-then (infer E S (branch_context Γ u xs) b n) (λ t. agreement E S (branch_context Γ u xs) AtMost t v) onward)))
 
-    from_type : (t : Tree) → at_args T f.params ≡ Some t → (w : Option Tree) → branch_type (count f.params) r (apps (Con f.number j) f.params) t xs ≡ w → infer_arms E no_store Γ f r j (drop j cs) (Arm xs b bs) n ≡ and_then (goal_fits E Γ xs b (with_type t w) n) onward
-    from_type t o None p = at ∙ infer_arms-arm-goal_none E no_store Γ f r j (constructor y T) (drop (j + 1) cs) xs b bs t n o p
+    from_type : (t : Tree) → at_args T f.params ≡ Some t → (w : Option Tree) → branch_type (count f.params) r (apps (Con f.number j) f.params) t xs ≡ w → infer_arms E S Γ f r j (drop j cs) (Arm xs b bs) n ≡ and_then (goal_fits E S Γ xs b (with_type t w) n) onward
+    from_type t o None p = at ∙ infer_arms-arm-goal_none E S Γ f r j (constructor y T) (drop (j + 1) cs) xs b bs t n o p
     from_type t o (Some w) p = at ∙ fitted t o w p
 
-    from_args : (o : Option Tree) → at_args T f.params ≡ o → infer_arms E no_store Γ f r j (drop j cs) (Arm xs b bs) n ≡ and_then (goal_fits E Γ xs b (goal_at f j r xs o) n) onward
-    from_args None p = at ∙ infer_arms-arm-own_none E no_store Γ f r j (constructor y T) (drop (j + 1) cs) xs b bs n p
+    from_args : (o : Option Tree) → at_args T f.params ≡ o → infer_arms E S Γ f r j (drop j cs) (Arm xs b bs) n ≡ and_then (goal_fits E S Γ xs b (goal_at f j r xs o) n) onward
+    from_args None p = at ∙ infer_arms-arm-own_none E S Γ f r j (constructor y T) (drop (j + 1) cs) xs b bs n p
     from_args (Some t) p = from_type t p (branch_type (count f.params) r (apps (Con f.number j) f.params) t xs) refl
 
-    by_branch : infer_arms E no_store Γ f r j (drop j cs) (Arm xs b bs) n ≡ and_then (branch_fits E Γ f r j T xs b n) onward
+    by_branch : infer_arms E S Γ f r j (drop j cs) (Arm xs b bs) n ≡ and_then (branch_fits E S Γ f r j T xs b n) onward
     unfolding branch_fits branch_goal
     by_branch = from_args (at_args T f.params) refl
 
   module _ (T : Tree) (xs : List Bytes) (b : Tree) (known : declared f j ≡ Some T) where
     abbrev next : Unit {0} → Charged (Unit {0})
-    next z = infer_arms E no_store Γ f r (suc j) (drop (j + 1) cs) bs
+    next z = infer_arms E S Γ f r (suc j) (drop (j + 1) cs) bs
 
-    by_arm : arms_from E Γ f r j (Arm xs b bs) n ≡ and_then (branch_fits E Γ f r j T xs b n) next
+    by_arm : arms_from E S Γ f r j (Arm xs b bs) n ≡ and_then (branch_fits E S Γ f r j T xs b n) next
     unfolding arms_from declared
     by_arm = by_branch T xs b known
 
-    pub arm_spent : branch_fits E Γ f r j T xs b n ≡ Spent → arms_from E Γ f r j (Arm xs b bs) n ≡ Spent
+    pub arm_spent : branch_fits E S Γ f r j T xs b n ≡ Spent → arms_from E S Γ f r j (Arm xs b bs) n ≡ Spent
     arm_spent e = by_arm ∙ ap (λ q. and_then q next) e
 
-    pub arm_refused : (q : Reason) (l : ℕ) → branch_fits E Γ f r j T xs b n ≡ Refused q l → arms_from E Γ f r j (Arm xs b bs) n ≡ Refused q l
+    pub arm_refused : (q : Reason) (l : ℕ) → branch_fits E S Γ f r j T xs b n ≡ Refused q l → arms_from E S Γ f r j (Arm xs b bs) n ≡ Refused q l
     arm_refused q l e = by_arm ∙ ap (λ q. and_then q next) e
 
-    pub arm_done : (z : Unit {0}) (l : ℕ) → branch_fits E Γ f r j T xs b n ≡ Done z l → arms_from E Γ f r j (Arm xs b bs) n ≡ arms_from E Γ f r (j + 1) bs l
+    pub arm_done : (z : Unit {0}) (l : ℕ) → branch_fits E S Γ f r j T xs b n ≡ Done z l → arms_from E S Γ f r j (Arm xs b bs) n ≡ arms_from E S Γ f r (j + 1) bs l
     unfolding arms_from
-    arm_done z l e = by_arm ∙ ap (λ q. and_then q next) e ∙ ap (λ k. infer_arms E no_store Γ f r k (drop (j + 1) cs) bs l) (sym (add-one j))
+    arm_done z l e = by_arm ∙ ap (λ q. and_then q next) e ∙ ap (λ k. infer_arms E S Γ f r k (drop (j + 1) cs) bs l) (sym (add-one j))
 
-    pub arm_within : rest (arms_from E Γ f r j (Arm xs b bs) n) ≤ rest (branch_fits E Γ f r j T xs b n)
-    arm_within = rw by_arm (then-rest (branch_fits E Γ f r j T xs b n) next (λ z l. infer_arms-rest E no_store Γ f r (suc j) (drop (j + 1) cs) bs l))
+    pub arm_within : rest (arms_from E S Γ f r j (Arm xs b bs) n) ≤ rest (branch_fits E S Γ f r j T xs b n)
+    arm_within = rw by_arm (then-rest (branch_fits E S Γ f r j T xs b n) next (λ z l. infer_arms-rest E S Γ f r (suc j) (drop (j + 1) cs) bs l))
 
-pub arms_end : (E : Environment) (Γ : List Hypothesis) (f : Family) (r : Tree) (j n : ℕ) → arms_from E Γ f r j NoArm n ≡ Done tt n
+pub arms_end : (E : Environment) (S : Store) (Γ : List Hypothesis) (f : Family) (r : Tree) (j n : ℕ) → arms_from E S Γ f r j NoArm n ≡ Done tt n
 unfolding arms_from
-arms_end E Γ f r j n = infer_arms-end E no_store Γ f r j (drop j f.constructors) n
+arms_end E S Γ f r j n = infer_arms-end E S Γ f r j (drop j f.constructors) n
 
 pub ruleset arms_rules = (arms_rest, branch_fits_rest, arms_end, arms_past, arm_spent, arm_refused, arm_done, arm_within)

@@ -1,10 +1,9 @@
 -- What contexts, arguments and families say as a pool grows.
-use Rattle.std.proofs.Common.{ℕ, zero, suc, ◌+◌, ◌<◌, ◌≤◌, ◌≡◌, List, [], ◌∷◌, length, refl, ap, sym, ◌∙◌, arith}
-use Rattle.mt_term.specs.Trees.{Tree, Trees, End, Item}
-use Rattle.mt_pool.specs.declared.nodes.TermId.{TermId}
+use Rattle.std.proofs.Common.{ℕ, ◌≤◌, ◌≡◌, List, ◌∷◌, length, refl, arith}
+use Rattle.mt_term.specs.Trees.{Tree, Item}
 use Rattle.mt_pool.specs.declared.held.HeldConstructor.{HeldConstructor}
 use Rattle.mt_pool.specs.HeldOf.{constructors_in, ConstructorsBelow}
-use Rattle.mt_pool.specs.Region.{tree_at, ids_of, Kept}
+use Rattle.mt_pool.specs.Region.{ids_of, Kept}
 use Rattle.mt_pool.proofs.Region.{kept, tree-kept, trees-kept, all-below, length-kept}
 use Rattle.mt_layers.proofs.Kept.{environment_rules, constructors-kept, constructors-more}
 use Rattle.mt_infer.specs.declared.arguments.Args.{Args, End as NoMore, More'}

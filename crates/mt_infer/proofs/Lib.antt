@@ -7,3 +7,4 @@ pub mod Eliminating
 pub mod Branching
 pub mod Matches
 pub mod Stepping
+pub mod TermByTerm

@@ -4,7 +4,7 @@ use Rattle.mt_term.specs.Trees.{Tree, Arms, Match}
 use Rattle.mt_term.specs.declared.universes.Sort.{Sort as AnySort}
 use Rattle.mt_term.specs.Declarations.{Hypothesis, Environment, Reason, BadElimination}
 use Rattle.mt_term.specs.Charges.{Outcome, Charged, Done, Refused, Spent, give, and_then, rest}
-use Rattle.mt_term.specs.Stores.{no_store}
+use Rattle.mt_term.specs.Stores.{Store}
 use Rattle.mt_term.specs.Inference.{Family, only, as_family, checked, eliminable, infer, elimination, eliminating, type_head, infer_arms}
 use Rattle.mt_term.proofs.Charged.{then-rest}
 use Rattle.mt_term.proofs.InferenceLaws.{infer-rest, elimination-rest}
@@ -29,10 +29,10 @@ checked_rest true l = omega arith
 checked_rest false l = omega arith
 
 -- the sort that a return function answers in
-module _ (E : Environment) (Γ : List Hypothesis) (p : List Tree) (f : HeldFamily) (r t : Tree) (n l : ℕ) where
-  pub elimination_done : infer E no_store Γ r n ≡ Done t l → elimination E no_store Γ (family_held p f) r n ≡ eliminating E no_store Γ f.large (tree_at p f.arity) (on_params (family_held p f)) t l
+module _ (E : Environment) (S : Store) (Γ : List Hypothesis) (p : List Tree) (f : HeldFamily) (r t : Tree) (n l : ℕ) where
+  pub elimination_done : infer E S Γ r n ≡ Done t l → elimination E S Γ (family_held p f) r n ≡ eliminating E S Γ f.large (tree_at p f.arity) (on_params (family_held p f)) t l
   unfolding family_held on_params
-  elimination_done h = elimination-done E no_store Γ (family_held p f) r t n l h
+  elimination_done h = elimination-done E S Γ (family_held p f) r t n l h
 
 pub arity_held : (m : ℕ) (f : HeldFamily) → FamilyBelow m f → f.arity.at < m
 unfolding FamilyBelow
@@ -43,19 +43,19 @@ arity-kept p q f k h = tree-kept p q f.arity k (arity_held (length p) f h)
 
 pub ruleset elimination_rules = (arity-kept, infer-rest, elimination-rest, eliminating-rest, elimination-type_spent, elimination-type_refused, elimination-type_within, elimination_done, arity_held)
 
-module _ (E : Environment) (Γ : List Hypothesis) (f : Family) (r c : Tree) (bs : Arms) (n : ℕ) where
+module _ (E : Environment) (S : Store) (Γ : List Hypothesis) (f : Family) (r c : Tree) (bs : Arms) (n : ℕ) where
   abbrev type_on : Outcome Tree
-  type_on = match_type E Γ f r c bs n
+  type_on = match_type E S Γ f r c bs n
 
   abbrev sort_on : Outcome AnySort
-  sort_on = elimination E no_store Γ f r n
+  sort_on = elimination E S Γ f r n
 
   abbrev arms_on : ℕ → Outcome (Unit {0})
-  arms_on k = arms_from E Γ f r zero bs k
+  arms_on k = arms_from E S Γ f r zero bs k
 
   pub arms_rest : (k : ℕ) → rest (arms_on k) ≤ k
   unfolding arms_from
-  arms_rest k = infer_arms-rest E no_store Γ f r zero _ bs k
+  arms_rest k = infer_arms-rest E S Γ f r zero _ bs k
 
   after_arms : (k : ℕ) → rest (and_then (arms_on k) (λ z. give (answer f r c))) ≤ rest (arms_on k)
   after_arms k = then-rest (arms_on k) (λ z. give (answer f r c)) (λ z l. omega arith)
@@ -76,7 +76,7 @@ module _ (E : Environment) (Γ : List Hypothesis) (f : Family) (r c : Tree) (bs 
   sort_within = then-rest sort_on _ (λ s k. after_sort k)
 
   pub type_within : rest type_on ≤ n
-  type_within = omega (arith, sort_within, elimination-rest E no_store Γ f r n)
+  type_within = omega (arith, sort_within, elimination-rest E S Γ f r n)
 
   module _ (s : AnySort) (k : ℕ) (h : sort_on ≡ Done s k) where
     pub unfitting : has_branches f bs ≡ false → type_on ≡ Refused BadElimination k
@@ -110,28 +110,28 @@ module _ (E : Environment) (Γ : List Hypothesis) (f : Family) (r c : Tree) (bs 
 pub ruleset match_type_rules = (elimination-rest, arms_rest, type_within, sort_spent, sort_refused, sort_within, unfitting, unfitting_within, branches_spent, branches_refused, branches_within, match_done, match_within)
 
 -- where the weak head of the matched term's type is known
-module _ (E : Environment) (Γ : List Hypothesis) (e : ℕ) (d r c : Tree) (bs : Arms) (n : ℕ) where
-  pub family_none : only e (as_family E.entries d) ≡ None → match_on E Γ e d r c bs n ≡ Refused BadElimination n
+module _ (E : Environment) (S : Store) (Γ : List Hypothesis) (e : ℕ) (d r c : Tree) (bs : Arms) (n : ℕ) where
+  pub family_none : only e (as_family E.entries d) ≡ None → match_on E S Γ e d r c bs n ≡ Refused BadElimination n
   unfolding match_on
   family_none o = on_refused _ _ (ap (λ q. eliminable q n) o)
 
-  pub family_found : (f : Family) → only e (as_family E.entries d) ≡ Some f → match_on E Γ e d r c bs n ≡ match_type E Γ f r c bs n
+  pub family_found : (f : Family) → only e (as_family E.entries d) ≡ Some f → match_on E S Γ e d r c bs n ≡ match_type E S Γ f r c bs n
   unfolding match_on
   family_found f o = on_done _ _ (ap (λ q. eliminable q n) o) refl
 
-  either : (o : Option Family) → only e (as_family E.entries d) ≡ o → rest (match_on E Γ e d r c bs n) ≤ n
+  either : (o : Option Family) → only e (as_family E.entries d) ≡ o → rest (match_on E S Γ e d r c bs n) ≤ n
   either None o = let q = family_none o in omega (arith, ap rest q)
-  either (Some f) o = let q = family_found f o in omega (arith, ap rest q, type_within E Γ f r c bs n)
+  either (Some f) o = let q = family_found f o in omega (arith, ap rest q, type_within E S Γ f r c bs n)
 
-  pub match_on_rest : rest (match_on E Γ e d r c bs n) ≤ n
+  pub match_on_rest : rest (match_on E S Γ e d r c bs n) ≤ n
   match_on_rest = either (only e (as_family E.entries d)) refl
 
 pub ruleset match_on_rules = (type_within, family_none, family_found, match_on_rest)
 
-pub by_head : (E : Environment) (Γ : List Hypothesis) (e : ℕ) (r c : Tree) (bs : Arms) (d : Tree) (n l : ℕ) → 0 < n → type_head E no_store Γ c (n - 1) ≡ Done d l → infer E no_store Γ (Match e r c bs) n ≡ match_on E Γ e d r c bs l
+pub by_head : (E : Environment) (S : Store) (Γ : List Hypothesis) (e : ℕ) (r c : Tree) (bs : Arms) (d : Tree) (n l : ℕ) → 0 < n → type_head E S Γ c (n - 1) ≡ Done d l → infer E S Γ (Match e r c bs) n ≡ match_on E S Γ e d r c bs l
 unfolding infer type_head elimination infer_arms match_on match_type has_branches arms_from answer
-by_head E Γ e r c bs d n l h p =
+by_head E S Γ e r c bs d n l h p =
     let k : n ≡ suc (n - 1) = omega (arith, h) in
-    ap (infer E no_store Γ (Match e r c bs)) k ∙ on_done _ _ p refl
+    ap (infer E S Γ (Match e r c bs)) k ∙ on_done _ _ p refl
 
 pub ruleset infer_match_rules = (infer-rest, type_head-rest, match_on_rest, infer-out, infer-match-matched_spent, infer-match-matched_refused, infer-match-matched_within, by_head)

@@ -5,7 +5,7 @@ use Rattle.mt_term.specs.Substitution.{apps, count, join, lift, one, sub}
 use Rattle.mt_term.specs.Declarations.{BadElimination, Hypothesis, Environment}
 use Rattle.mt_term.specs.Charges.{Charged, give, refuse, ◌>>=◌}
 use Rattle.mt_term.specs.Spines.{at_args, bullets}
-use Rattle.mt_term.specs.Stores.{no_store}
+use Rattle.mt_term.specs.Stores.{Store}
 use Rattle.mt_term.specs.Inference.{Family, Product, as_family, as_product, branch_context, branch_type, branches_fit, checked, constructor_type, eliminable, eliminating, elimination, infer, infer_arms, agreement, only}
 use Rattle.mt_term.specs.declared.universes.Sort.{Sort as AnySort}
 use Rattle.mt_term.specs.declared.modes.Mode.TheVariants.{Equal, AtMost}
@@ -19,26 +19,26 @@ unfoldable pub on_newest : Tree → Tree
 on_newest t = App (lift 1 0 t) (Var 0)
 
 -- the type of a function of a product's type on an argument
-unfoldable pub applied : Environment → List Hypothesis → Product → Tree → Charged Tree
-applied E Γ p a = do
-  t ← infer E no_store Γ a
-  _ ← agreement E no_store Γ AtMost t p.dom
+unfoldable pub applied : Environment → Store → List Hypothesis → Product → Tree → Charged Tree
+applied E S Γ p a = do
+  t ← infer E S Γ a
+  _ ← agreement E S Γ AtMost t p.dom
   give (instance p.cod a)
 
 -- the weak head of a type, which has to be a product over this domain
-unfoldable pub product_over : Environment → List Hypothesis → Tree → Tree → Charged Product
-product_over E Γ t a = do
-  p ← as_product E no_store t
-  _ ← agreement E no_store Γ Equal p.dom a
+unfoldable pub product_over : Environment → Store → List Hypothesis → Tree → Tree → Charged Product
+product_over E S Γ t a = do
+  p ← as_product E S t
+  _ ← agreement E S Γ Equal p.dom a
   give p
 
 -- the type of a return function against an arity that is a product over a further index
-unfoldable pub eliminating_over : Environment → List Hypothesis → Bool → Tree → Tree → Tree → Tree → Charged AnySort
-eliminating_over E Γ large a b u t = product_over E Γ t a >>= (λ p. eliminating E no_store (record { name = p.name; ty = p.dom } ∷ Γ) large b (on_newest u) p.cod)
+unfoldable pub eliminating_over : Environment → Store → List Hypothesis → Bool → Tree → Tree → Tree → Tree → Charged AnySort
+eliminating_over E S Γ large a b u t = product_over E S Γ t a >>= (λ p. eliminating E S (record { name = p.name; ty = p.dom } ∷ Γ) large b (on_newest u) p.cod)
 
 -- the inferred type of a term is at most a type
-unfoldable pub fits : Environment → List Hypothesis → Tree → Tree → Charged (Unit {0})
-fits E Γ t v = infer E no_store Γ t >>= (λ u. agreement E no_store Γ AtMost u v)
+unfoldable pub fits : Environment → Store → List Hypothesis → Tree → Tree → Charged (Unit {0})
+fits E S Γ t v = infer E S Γ t >>= (λ u. agreement E S Γ AtMost u v)
 
 -- a constructor's type at the parameters, and the type of its branch's body
 pub record Goal : Type 0 where
@@ -58,21 +58,21 @@ unfoldable pub branch_goal : Family → ℕ → Tree → Tree → List Bytes →
 branch_goal f k t r xs = goal_at f k r xs (at_args t f.params)
 
 -- the body of a branch against its goal
-abbrev pub goal_fits : Environment → List Hypothesis → List Bytes → Tree → Option Goal → Charged (Unit {0})
-goal_fits E Γ xs b None = refuse BadElimination
-goal_fits E Γ xs b (Some g) = fits E (branch_context Γ g.own xs) b g.ty
+abbrev pub goal_fits : Environment → Store → List Hypothesis → List Bytes → Tree → Option Goal → Charged (Unit {0})
+goal_fits E S Γ xs b None = refuse BadElimination
+goal_fits E S Γ xs b (Some g) = fits E S (branch_context Γ g.own xs) b g.ty
 
 -- the branch for constructor k, which has this type
-unfoldable pub branch_fits : Environment → List Hypothesis → Family → Tree → ℕ → Tree → List Bytes → Tree → Charged (Unit {0})
-branch_fits E Γ f r k t xs b = goal_fits E Γ xs b (branch_goal f k t r xs)
+unfoldable pub branch_fits : Environment → Store → List Hypothesis → Family → Tree → ℕ → Tree → List Bytes → Tree → Charged (Unit {0})
+branch_fits E S Γ f r k t xs b = goal_fits E S Γ xs b (branch_goal f k t r xs)
 
 -- the type of constructor k
 unfoldable pub declared : Family → ℕ → Option Tree
 declared f k = constructor_type (slice_get f.constructors k)
 
 -- the branches from number k on
-unfoldable pub arms_from : Environment → List Hypothesis → Family → Tree → ℕ → Arms → Charged (Unit {0})
-arms_from E Γ f r k bs = infer_arms E no_store Γ f r k (drop k f.constructors) bs
+unfoldable pub arms_from : Environment → Store → List Hypothesis → Family → Tree → ℕ → Arms → Charged (Unit {0})
+arms_from E S Γ f r k bs = infer_arms E S Γ f r k (drop k f.constructors) bs
 
 -- whether these are the branches of the constructors
 unfoldable pub has_branches : Family → Arms → Bool
@@ -87,13 +87,13 @@ unfoldable pub answer : Family → Tree → Tree → Tree
 answer f r c = bullets r (join f.indices (Item c End))
 
 -- the type of a match on a term of an inductive type
-unfoldable pub match_type : Environment → List Hypothesis → Family → Tree → Tree → Arms → Charged Tree
-match_type E Γ f r c bs = do
-  s ← elimination E no_store Γ f r
+unfoldable pub match_type : Environment → Store → List Hypothesis → Family → Tree → Tree → Arms → Charged Tree
+match_type E S Γ f r c bs = do
+  s ← elimination E S Γ f r
   _ ← checked (has_branches f bs)
-  _ ← arms_from E Γ f r zero bs
+  _ ← arms_from E S Γ f r zero bs
   give (answer f r c)
 
 -- the same where the type's weak head has to be inductive type e
-unfoldable pub match_on : Environment → List Hypothesis → ℕ → Tree → Tree → Tree → Arms → Charged Tree
-match_on E Γ e d r c bs = eliminable (only e (as_family E.entries d)) >>= (λ f. match_type E Γ f r c bs)
+unfoldable pub match_on : Environment → Store → List Hypothesis → ℕ → Tree → Tree → Tree → Arms → Charged Tree
+match_on E S Γ e d r c bs = eliminable (only e (as_family E.entries d)) >>= (λ f. match_type E S Γ f r c bs)

@@ -3,3 +3,4 @@ pub mod Forms
 pub mod Arguments
 pub mod Fitting
 pub mod Families
+pub mod Metavariables

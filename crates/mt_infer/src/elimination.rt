@@ -5,8 +5,8 @@ ghost use Rattle.mt_infer.specs.Scopes.{scope_in, ScopeBelow};
 ghost use Rattle.mt_layers.specs.Environments.{environment_in, EnvBelow};
 ghost use Rattle.mt_layers.specs.Meets.{Meets};
 ghost use Rattle.mt_pool.specs.Region.{tree_at, Kept};
+ghost use Rattle.mt_store.specs.Held.{store_in, StoreBelow};
 ghost use Rattle.mt_term.specs.Inference.{eliminating, may_eliminate};
-ghost use Rattle.mt_term.specs.Stores.{no_store};
 ghost use Rattle.mt_term.specs.Trees.{Sort as SortTree};
 
 use crate::arguments::on_newest;
@@ -51,10 +51,12 @@ pub fn eliminated<C: Convert, W: Whd, L: Ledger>(
     requires type_held { ty.at < length w.old.pool.now }
     requires scope_held { ScopeBelow (length w.old.pool.now) scope.now }
     requires env_held { EnvBelow (length w.old.pool.now) w.old.env.now }
+    requires store_held { StoreBelow (length w.old.pool.now) w.old.store.now }
     ensures same_pool { w.new.pool.ghost_name ≡ w.old.pool.ghost_name }
     ensures env { w.new.env ≡ w.old.env }
+    ensures store { w.new.store ≡ w.old.store }
     ensures kept { Kept w.old.pool.now w.new.pool.now }
-    ensures outcome { Meets (λ s. s) (eliminating (environment_in w.old.pool.now w.old.env.now) no_store (scope_in w.old.pool.now scope.now) large (tree_at w.old.pool.now arity) (tree_at w.old.pool.now family) (tree_at w.old.pool.now ty) w.old.left) w.new.left result }
+    ensures outcome { Meets (λ s. s) (eliminating (environment_in w.old.pool.now w.old.env.now) (store_in w.old.pool.now w.old.store.now) (scope_in w.old.pool.now scope.now) large (tree_at w.old.pool.now arity) (tree_at w.old.pool.now family) (tree_at w.old.pool.now ty) w.old.left) w.new.left result }
     ensures cost { steps.new + w.new.left ≡ steps.old + w.old.left }
 {
     let deep = deeper(deep)?;
@@ -103,10 +105,12 @@ fn eliminated_over<C: Convert, W: Whd, L: Ledger>(
     requires type_held { ty.at < length w.old.pool.now }
     requires scope_held { ScopeBelow (length w.old.pool.now) scope.now }
     requires env_held { EnvBelow (length w.old.pool.now) w.old.env.now }
+    requires store_held { StoreBelow (length w.old.pool.now) w.old.store.now }
     ensures same_pool { w.new.pool.ghost_name ≡ w.old.pool.ghost_name }
     ensures env { w.new.env ≡ w.old.env }
+    ensures store { w.new.store ≡ w.old.store }
     ensures kept { Kept w.old.pool.now w.new.pool.now }
-    ensures outcome { Meets (λ s. s) (eliminating_over (environment_in w.old.pool.now w.old.env.now) (scope_in w.old.pool.now scope.now) large (tree_at w.old.pool.now index) (tree_at w.old.pool.now rest) (tree_at w.old.pool.now family) (tree_at w.old.pool.now ty) w.old.left) w.new.left result }
+    ensures outcome { Meets (λ s. s) (eliminating_over (environment_in w.old.pool.now w.old.env.now) (store_in w.old.pool.now w.old.store.now) (scope_in w.old.pool.now scope.now) large (tree_at w.old.pool.now index) (tree_at w.old.pool.now rest) (tree_at w.old.pool.now family) (tree_at w.old.pool.now ty) w.old.left) w.new.left result }
     ensures cost { steps.new + w.new.left ≡ steps.old + w.old.left }
 {
     let deep = deeper(deep)?;
@@ -136,10 +140,12 @@ fn eliminated_last<C: Convert, W: Whd, L: Ledger>(
     requires type_held { ty.at < length w.old.pool.now }
     requires scope_held { ScopeBelow (length w.old.pool.now) scope.now }
     requires env_held { EnvBelow (length w.old.pool.now) w.old.env.now }
+    requires store_held { StoreBelow (length w.old.pool.now) w.old.store.now }
     ensures same_pool { w.new.pool.ghost_name ≡ w.old.pool.ghost_name }
     ensures env { w.new.env ≡ w.old.env }
+    ensures store { w.new.store ≡ w.old.store }
     ensures kept { Kept w.old.pool.now w.new.pool.now }
-    ensures outcome { Meets (λ s. s) (eliminating (environment_in w.old.pool.now w.old.env.now) no_store (scope_in w.old.pool.now scope.now) large (SortTree from) (tree_at w.old.pool.now family) (tree_at w.old.pool.now ty) w.old.left) w.new.left result }
+    ensures outcome { Meets (λ s. s) (eliminating (environment_in w.old.pool.now w.old.env.now) (store_in w.old.pool.now w.old.store.now) (scope_in w.old.pool.now scope.now) large (SortTree from) (tree_at w.old.pool.now family) (tree_at w.old.pool.now ty) w.old.left) w.new.left result }
     ensures cost { steps.new + w.new.left ≡ steps.old + w.old.left }
 {
     let product = product_over(i, alloc, w, scope, ty, family, steps)?;

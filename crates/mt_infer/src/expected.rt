@@ -6,8 +6,8 @@ ghost use Rattle.mt_infer.specs.Scopes.{scope_in, ScopeBelow};
 ghost use Rattle.mt_layers.specs.Environments.{environment_in, EnvBelow};
 ghost use Rattle.mt_layers.specs.Meets.{Meets};
 ghost use Rattle.mt_pool.specs.Region.{tree_at, Kept};
+ghost use Rattle.mt_store.specs.Held.{store_in, StoreBelow};
 ghost use Rattle.mt_term.specs.Inference.{agreement, as_product, as_sort};
-ghost use Rattle.mt_term.specs.Stores.{no_store};
 
 use crate::inferrer::Inferrer;
 use crate::scopes::{Scope, hypotheses};
@@ -81,10 +81,12 @@ pub fn as_sort<C: Convert, W: Whd, L: Ledger>(
 ) -> Result<Sort, Stop>
     requires held { t.at < length w.old.pool.now }
     requires env_held { EnvBelow (length w.old.pool.now) w.old.env.now }
+    requires store_held { StoreBelow (length w.old.pool.now) w.old.store.now }
     ensures same_pool { w.new.pool.ghost_name ≡ w.old.pool.ghost_name }
     ensures env { w.new.env ≡ w.old.env }
+    ensures store { w.new.store ≡ w.old.store }
     ensures kept { Kept w.old.pool.now w.new.pool.now }
-    ensures outcome { Meets (λ s. s) (as_sort (environment_in w.old.pool.now w.old.env.now) no_store (tree_at w.old.pool.now t) w.old.left) w.new.left result }
+    ensures outcome { Meets (λ s. s) (as_sort (environment_in w.old.pool.now w.old.env.now) (store_in w.old.pool.now w.old.store.now) (tree_at w.old.pool.now t) w.old.left) w.new.left result }
     ensures cost { steps.new + w.new.left ≡ steps.old + w.old.left }
 {
     let head = i.whd.whd(alloc, w, t, steps)?;
@@ -102,10 +104,12 @@ pub fn as_product<C: Convert, W: Whd, L: Ledger>(
 ) -> Result<HeldProduct, Stop>
     requires held { t.at < length w.old.pool.now }
     requires env_held { EnvBelow (length w.old.pool.now) w.old.env.now }
+    requires store_held { StoreBelow (length w.old.pool.now) w.old.store.now }
     ensures same_pool { w.new.pool.ghost_name ≡ w.old.pool.ghost_name }
     ensures env { w.new.env ≡ w.old.env }
+    ensures store { w.new.store ≡ w.old.store }
     ensures kept { Kept w.old.pool.now w.new.pool.now }
-    ensures outcome { Meets (held w.new.pool.now) (as_product (environment_in w.old.pool.now w.old.env.now) no_store (tree_at w.old.pool.now t) w.old.left) w.new.left result }
+    ensures outcome { Meets (held w.new.pool.now) (as_product (environment_in w.old.pool.now w.old.env.now) (store_in w.old.pool.now w.old.store.now) (tree_at w.old.pool.now t) w.old.left) w.new.left result }
     ensures result_held { IfOk result (λ k. ProductBelow (length w.new.pool.now) k) }
     ensures cost { steps.new + w.new.left ≡ steps.old + w.old.left }
 {
@@ -129,10 +133,12 @@ pub fn agree<C: Convert, W: Whd, L: Ledger>(
     requires second { expected.at < length w.old.pool.now }
     requires scope_held { ScopeBelow (length w.old.pool.now) scope.now }
     requires env_held { EnvBelow (length w.old.pool.now) w.old.env.now }
+    requires store_held { StoreBelow (length w.old.pool.now) w.old.store.now }
     ensures same_pool { w.new.pool.ghost_name ≡ w.old.pool.ghost_name }
     ensures env { w.new.env ≡ w.old.env }
+    ensures store { w.new.store ≡ w.old.store }
     ensures kept { Kept w.old.pool.now w.new.pool.now }
-    ensures outcome { Meets (λ a. a) (agreement (environment_in w.old.pool.now w.old.env.now) no_store (scope_in w.old.pool.now scope.now) mode (tree_at w.old.pool.now inferred) (tree_at w.old.pool.now expected) w.old.left) w.new.left result }
+    ensures outcome { Meets (λ a. a) (agreement (environment_in w.old.pool.now w.old.env.now) (store_in w.old.pool.now w.old.store.now) (scope_in w.old.pool.now scope.now) mode (tree_at w.old.pool.now inferred) (tree_at w.old.pool.now expected) w.old.left) w.new.left result }
     ensures cost { steps.new + w.new.left ≡ steps.old + w.old.left }
 {
     if i.convert
@@ -163,10 +169,12 @@ pub fn product_over<C: Convert, W: Whd, L: Ledger>(
     requires domain_held { domain.at < length w.old.pool.now }
     requires scope_held { ScopeBelow (length w.old.pool.now) scope.now }
     requires env_held { EnvBelow (length w.old.pool.now) w.old.env.now }
+    requires store_held { StoreBelow (length w.old.pool.now) w.old.store.now }
     ensures same_pool { w.new.pool.ghost_name ≡ w.old.pool.ghost_name }
     ensures env { w.new.env ≡ w.old.env }
+    ensures store { w.new.store ≡ w.old.store }
     ensures kept { Kept w.old.pool.now w.new.pool.now }
-    ensures outcome { Meets (held w.new.pool.now) (product_over (environment_in w.old.pool.now w.old.env.now) (scope_in w.old.pool.now scope.now) (tree_at w.old.pool.now ty) (tree_at w.old.pool.now domain) w.old.left) w.new.left result }
+    ensures outcome { Meets (held w.new.pool.now) (product_over (environment_in w.old.pool.now w.old.env.now) (store_in w.old.pool.now w.old.store.now) (scope_in w.old.pool.now scope.now) (tree_at w.old.pool.now ty) (tree_at w.old.pool.now domain) w.old.left) w.new.left result }
     ensures result_held { IfOk result (λ k. ProductBelow (length w.new.pool.now) k) }
     ensures cost { steps.new + w.new.left ≡ steps.old + w.old.left }
 {

@@ -5,8 +5,8 @@ ghost use Rattle.mt_layers.specs.Environments.{environment_in, EnvBelow};
 ghost use Rattle.mt_layers.specs.Meets.{Meets};
 ghost use Rattle.mt_pool.specs.HeldOf.{ContextBelow};
 ghost use Rattle.mt_pool.specs.Region.{tree_at, Kept};
+ghost use Rattle.mt_store.specs.Held.{store_in, StoreBelow};
 ghost use Rattle.mt_term.specs.Inference.{infer};
-ghost use Rattle.mt_term.specs.Stores.{no_store};
 
 use crate::inference::infer;
 use crate::scopes::Scope;
@@ -46,10 +46,12 @@ fn infer_inside<C: Convert, W: Whd, L: Ledger>(
     requires hyps_held { ContextBelow (length w.old.pool.now) hyps.now }
     requires scope_held { ScopeBelow (length w.old.pool.now) scope.now }
     requires env_held { EnvBelow (length w.old.pool.now) w.old.env.now }
+    requires store_held { StoreBelow (length w.old.pool.now) w.old.store.now }
     ensures same_pool { w.new.pool.ghost_name ≡ w.old.pool.ghost_name }
     ensures env { w.new.env ≡ w.old.env }
+    ensures store { w.new.store ≡ w.old.store }
     ensures kept { Kept w.old.pool.now w.new.pool.now }
-    ensures outcome { Meets (tree_at w.new.pool.now) (infer (environment_in w.old.pool.now w.old.env.now) no_store (inside w.old.pool.now hyps.now (scope_in w.old.pool.now scope.now)) (tree_at w.old.pool.now t) w.old.left) w.new.left result }
+    ensures outcome { Meets (tree_at w.new.pool.now) (infer (environment_in w.old.pool.now w.old.env.now) (store_in w.old.pool.now w.old.store.now) (inside w.old.pool.now hyps.now (scope_in w.old.pool.now scope.now)) (tree_at w.old.pool.now t) w.old.left) w.new.left result }
     ensures result_held { IfOk result (λ u. u.at < length w.new.pool.now) }
     ensures cost { steps.new + w.new.left ≡ steps.old + w.old.left }
 {

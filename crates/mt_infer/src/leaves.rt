@@ -3,16 +3,16 @@ ghost use Rattle.std.specs.Prelude.{◌≡◌, ◌<◌, ◌+◌, [], length, IfO
 ghost use Rattle.mt_infer.specs.Scopes.{scope_in, ScopeBelow};
 ghost use Rattle.mt_layers.specs.Environments.{environment_in, EnvBelow};
 ghost use Rattle.mt_layers.specs.Meets.{Meets};
-ghost use Rattle.mt_pool.specs.Region.{ids_of, tree_at, trees_at, Kept};
+ghost use Rattle.mt_pool.specs.Region.{tree_at, Kept};
+ghost use Rattle.mt_store.specs.Held.{store_in, StoreBelow};
 ghost use Rattle.mt_term.specs.Inference.{infer};
-ghost use Rattle.mt_term.specs.Stores.{no_store};
-ghost use Rattle.mt_term.specs.Trees.{Con, Const, Ind, Meta, Sort as SortTree, Var};
+ghost use Rattle.mt_term.specs.Trees.{Con, Const, Ind, Sort as SortTree, Var};
 
 use crate::entries::{constant_type, inductive_type};
 use crate::scopes::{Scope, type_at};
 use crate::sorts::sort_above;
 use mt_layers::{Work, constructor_type};
-use mt_pool::{Node, TermId, TermIds};
+use mt_pool::{Node, TermId};
 use mt_term::{Name, Refusal, Sort, Stop};
 use mt_text::{Ledger, Steps};
 use std::alloc::Global;
@@ -28,10 +28,12 @@ pub fn infer_variable<L: Ledger>(
 ) -> Result<TermId, Stop>
     requires scope_held { ScopeBelow (length w.old.pool.now) scope.now }
     requires env_held { EnvBelow (length w.old.pool.now) w.old.env.now }
+    requires store_held { StoreBelow (length w.old.pool.now) w.old.store.now }
     ensures same_pool { w.new.pool.ghost_name ≡ w.old.pool.ghost_name }
     ensures env { w.new.env ≡ w.old.env }
+    ensures store { w.new.store ≡ w.old.store }
     ensures kept { Kept w.old.pool.now w.new.pool.now }
-    ensures outcome { Meets (tree_at w.new.pool.now) (infer (environment_in w.old.pool.now w.old.env.now) no_store (scope_in w.old.pool.now scope.now) (Var at) w.old.left) w.new.left result }
+    ensures outcome { Meets (tree_at w.new.pool.now) (infer (environment_in w.old.pool.now w.old.env.now) (store_in w.old.pool.now w.old.store.now) (scope_in w.old.pool.now scope.now) (Var at) w.old.left) w.new.left result }
     ensures result_held { IfOk result (λ u. u.at < length w.new.pool.now) }
     ensures cost { steps.new + w.new.left ≡ steps.old + w.old.left }
 {
@@ -53,10 +55,12 @@ pub fn infer_sort<L: Ledger>(
 ) -> Result<TermId, Stop>
     requires scope_held { ScopeBelow (length w.old.pool.now) scope.now }
     requires env_held { EnvBelow (length w.old.pool.now) w.old.env.now }
+    requires store_held { StoreBelow (length w.old.pool.now) w.old.store.now }
     ensures same_pool { w.new.pool.ghost_name ≡ w.old.pool.ghost_name }
     ensures env { w.new.env ≡ w.old.env }
+    ensures store { w.new.store ≡ w.old.store }
     ensures kept { Kept w.old.pool.now w.new.pool.now }
-    ensures outcome { Meets (tree_at w.new.pool.now) (infer (environment_in w.old.pool.now w.old.env.now) no_store (scope_in w.old.pool.now scope.now) (SortTree s) w.old.left) w.new.left result }
+    ensures outcome { Meets (tree_at w.new.pool.now) (infer (environment_in w.old.pool.now w.old.env.now) (store_in w.old.pool.now w.old.store.now) (scope_in w.old.pool.now scope.now) (SortTree s) w.old.left) w.new.left result }
     ensures result_held { IfOk result (λ u. u.at < length w.new.pool.now) }
     ensures cost { steps.new + w.new.left ≡ steps.old + w.old.left }
 {
@@ -78,10 +82,12 @@ pub fn infer_constant<L: Ledger>(
 ) -> Result<TermId, Stop>
     requires scope_held { ScopeBelow (length w.old.pool.now) scope.now }
     requires env_held { EnvBelow (length w.old.pool.now) w.old.env.now }
+    requires store_held { StoreBelow (length w.old.pool.now) w.old.store.now }
     ensures same_pool { w.new.pool.ghost_name ≡ w.old.pool.ghost_name }
     ensures env { w.new.env ≡ w.old.env }
+    ensures store { w.new.store ≡ w.old.store }
     ensures kept { Kept w.old.pool.now w.new.pool.now }
-    ensures outcome { Meets (tree_at w.new.pool.now) (infer (environment_in w.old.pool.now w.old.env.now) no_store (scope_in w.old.pool.now scope.now) (Const c) w.old.left) w.new.left result }
+    ensures outcome { Meets (tree_at w.new.pool.now) (infer (environment_in w.old.pool.now w.old.env.now) (store_in w.old.pool.now w.old.store.now) (scope_in w.old.pool.now scope.now) (Const c) w.old.left) w.new.left result }
     ensures result_held { IfOk result (λ u. u.at < length w.new.pool.now) }
     ensures cost { steps.new + w.new.left ≡ steps.old + w.old.left }
 {
@@ -103,10 +109,12 @@ pub fn infer_inductive<L: Ledger>(
 ) -> Result<TermId, Stop>
     requires scope_held { ScopeBelow (length w.old.pool.now) scope.now }
     requires env_held { EnvBelow (length w.old.pool.now) w.old.env.now }
+    requires store_held { StoreBelow (length w.old.pool.now) w.old.store.now }
     ensures same_pool { w.new.pool.ghost_name ≡ w.old.pool.ghost_name }
     ensures env { w.new.env ≡ w.old.env }
+    ensures store { w.new.store ≡ w.old.store }
     ensures kept { Kept w.old.pool.now w.new.pool.now }
-    ensures outcome { Meets (tree_at w.new.pool.now) (infer (environment_in w.old.pool.now w.old.env.now) no_store (scope_in w.old.pool.now scope.now) (Ind e) w.old.left) w.new.left result }
+    ensures outcome { Meets (tree_at w.new.pool.now) (infer (environment_in w.old.pool.now w.old.env.now) (store_in w.old.pool.now w.old.store.now) (scope_in w.old.pool.now scope.now) (Ind e) w.old.left) w.new.left result }
     ensures result_held { IfOk result (λ u. u.at < length w.new.pool.now) }
     ensures cost { steps.new + w.new.left ≡ steps.old + w.old.left }
 {
@@ -129,10 +137,12 @@ pub fn infer_constructor<L: Ledger>(
 ) -> Result<TermId, Stop>
     requires scope_held { ScopeBelow (length w.old.pool.now) scope.now }
     requires env_held { EnvBelow (length w.old.pool.now) w.old.env.now }
+    requires store_held { StoreBelow (length w.old.pool.now) w.old.store.now }
     ensures same_pool { w.new.pool.ghost_name ≡ w.old.pool.ghost_name }
     ensures env { w.new.env ≡ w.old.env }
+    ensures store { w.new.store ≡ w.old.store }
     ensures kept { Kept w.old.pool.now w.new.pool.now }
-    ensures outcome { Meets (tree_at w.new.pool.now) (infer (environment_in w.old.pool.now w.old.env.now) no_store (scope_in w.old.pool.now scope.now) (Con e k) w.old.left) w.new.left result }
+    ensures outcome { Meets (tree_at w.new.pool.now) (infer (environment_in w.old.pool.now w.old.env.now) (store_in w.old.pool.now w.old.store.now) (scope_in w.old.pool.now scope.now) (Con e k) w.old.left) w.new.left result }
     ensures result_held { IfOk result (λ u. u.at < length w.new.pool.now) }
     ensures cost { steps.new + w.new.left ≡ steps.old + w.old.left }
 {
@@ -141,27 +151,4 @@ pub fn infer_constructor<L: Ledger>(
         Some(ty) => Ok(ty),
         None => Err(Stop::Refused(Refusal::Unbound(Name::new(alloc)))),
     }
-}
-
-/// The type of a metavariable: there is none.
-#[tactic(auto, using(crate::proofs::Held::infer_held, crate::proofs::Inferring::leaf_rules))]
-pub fn infer_metavariable<L: Ledger>(
-    alloc: Global,
-    w: &mut Work<'_>,
-    scope: &Scope<'_>,
-    n: usize,
-    s: &TermIds,
-    steps: &mut Steps<L>,
-) -> Result<TermId, Stop>
-    requires scope_held { ScopeBelow (length w.old.pool.now) scope.now }
-    requires env_held { EnvBelow (length w.old.pool.now) w.old.env.now }
-    ensures same_pool { w.new.pool.ghost_name ≡ w.old.pool.ghost_name }
-    ensures env { w.new.env ≡ w.old.env }
-    ensures kept { Kept w.old.pool.now w.new.pool.now }
-    ensures outcome { Meets (tree_at w.new.pool.now) (infer (environment_in w.old.pool.now w.old.env.now) no_store (scope_in w.old.pool.now scope.now) (Meta n (trees_at w.old.pool.now (ids_of s.now))) w.old.left) w.new.left result }
-    ensures result_held { IfOk result (λ u. u.at < length w.new.pool.now) }
-    ensures cost { steps.new + w.new.left ≡ steps.old + w.old.left }
-{
-    w.charge(steps)?;
-    Err(Stop::Refused(Refusal::Unbound(Name::new(alloc))))
 }

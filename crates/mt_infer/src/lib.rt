@@ -10,7 +10,11 @@ mod families;
 mod inference;
 mod inferrer;
 mod leaves;
+mod matching;
+mod metavariables;
 mod scopes;
 mod sorts;
+#[cfg(test)]
+mod tests;
 
 pub use inferrer::Inferrer;

@@ -16,6 +16,7 @@ use Rattle.mt_pool.specs.declared.held.Held.TheVariants.{Axiom as HeldAxiom, Def
 use Rattle.mt_pool.specs.declared.held.HeldConstructor.{HeldConstructor}
 use Rattle.mt_pool.specs.HeldOf.{constructor_in, constructors_in, ConstructorsBelow, declaration_in, HeldBelow}
 use Rattle.mt_pool.proofs.Region.{tree-kept, length-kept}
+use Rattle.mt_store.proofs.HeldLaws.{store-kept, store-below, none-below as no-metas-below}
 use Rattle.mt_env.specs.Environments.{HeldEnvironment, no_entries, EntriesBelow, IsAdded}
 use Rattle.mt_layers.specs.Environments.{environment_in, EnvBelow, declaration_seen, SeenBelow}
 use Rattle.mt_term.specs.Seen.{seen}
@@ -99,7 +100,8 @@ constructor-below m [] k c b e = absurd cc
 constructor-below m (d ∷ cs) zero c b e = let same : d ≡ c = cc in subst (λ (x : HeldConstructor). x.ty.at < m) same b.0
 constructor-below m (d ∷ cs) (suc k) c b e = constructor-below m cs k c b.1 e
 
-pub ruleset environment_rules = (env-kept, env-below)
+-- with the store
+pub ruleset environment_rules = (env-kept, env-below, store-kept, store-below)
 
 -- where no entry is, and where one is added
 pub none-below : (n : ℕ) (env : HeldEnvironment) → env ≡ no_entries → EnvBelow n env
@@ -118,7 +120,7 @@ pub entries-below : (n : ℕ) (env : HeldEnvironment) → EnvBelow n env → Ent
 unfolding EnvBelow
 entries-below n env b = b
 
-pub ruleset added_rules = (none-below, added-below, entries-below)
+pub ruleset added_rules = (none-below, added-below, entries-below, no-metas-below)
 
 pub past_end : {A : Type 0} (xs : List A) (n : ℕ) → length xs ≤ n → slice_get xs n ≡ None
 past_end xs n l = slice_get_past xs n l

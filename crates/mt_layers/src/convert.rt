@@ -3,9 +3,9 @@ ghost use Rattle.std.specs.Prelude.{◌≡◌, ◌<◌, ◌+◌, length, true, I
 ghost use Rattle.mt_layers.specs.Environments.{environment_in, EnvBelow};
 ghost use Rattle.mt_layers.specs.Meets.{Meets, IsNoRefusal};
 ghost use Rattle.mt_pool.specs.Region.{tree_at, Kept};
+ghost use Rattle.mt_store.specs.Held.{store_in, StoreBelow};
 ghost use Rattle.mt_term.specs.Comparison.{convert};
 ghost use Rattle.mt_term.specs.ReductionLaws.{Compared};
-ghost use Rattle.mt_term.specs.Stores.{no_store};
 
 use crate::work::Work;
 use mt_pool::TermId;
@@ -28,11 +28,13 @@ pub trait Convert {
         requires first { t.at < length w.old.pool.now }
         requires second { u.at < length w.old.pool.now }
         requires env_held { EnvBelow (length w.old.pool.now) w.old.env.now }
+        requires store_held { StoreBelow (length w.old.pool.now) w.old.store.now }
         ensures same_pool { w.new.pool.ghost_name ≡ w.old.pool.ghost_name }
         ensures env { w.new.env ≡ w.old.env }
+        ensures store { w.new.store ≡ w.old.store }
         ensures kept { Kept w.old.pool.now w.new.pool.now }
-        ensures outcome { Meets (λ b. b) (convert (environment_in w.old.pool.now w.old.env.now) no_store mode (tree_at w.old.pool.now t) (tree_at w.old.pool.now u) w.old.left) w.new.left result }
+        ensures outcome { Meets (λ b. b) (convert (environment_in w.old.pool.now w.old.env.now) (store_in w.old.pool.now w.old.store.now) mode (tree_at w.old.pool.now t) (tree_at w.old.pool.now u) w.old.left) w.new.left result }
         ensures unrefused { IfErr result (λ e. IsNoRefusal e) }
-        ensures converted { IfOk result (λ b. b ≡ true → Compared (environment_in w.old.pool.now w.old.env.now) no_store mode (tree_at w.old.pool.now t) (tree_at w.old.pool.now u)) }
+        ensures converted { IfOk result (λ b. b ≡ true → Compared (environment_in w.old.pool.now w.old.env.now) (store_in w.old.pool.now w.old.store.now) mode (tree_at w.old.pool.now t) (tree_at w.old.pool.now u)) }
         ensures cost { steps.new + w.new.left ≡ steps.old + w.old.left };
 }

@@ -5,8 +5,8 @@ ghost use Rattle.mt_layers.specs.Meets.{Meets};
 ghost use Rattle.mt_layers.specs.Typed.{IsTyped};
 ghost use Rattle.mt_pool.specs.HeldOf.{hypotheses_in, ContextBelow};
 ghost use Rattle.mt_pool.specs.Region.{tree_at, Kept};
+ghost use Rattle.mt_store.specs.Held.{store_in, StoreBelow};
 ghost use Rattle.mt_term.specs.Inference.{infer};
-ghost use Rattle.mt_term.specs.Stores.{no_store};
 
 use crate::work::Work;
 use mt_pool::{Context, TermId};
@@ -16,7 +16,7 @@ use std::alloc::Global;
 
 /// What infers types.
 pub trait Infer {
-    /// The type of the term in the context; over a sound environment there is a derivation.
+    /// The type of the term in the context; over a sound environment and a sound store there is a derivation.
     fn infer<L: Ledger>(
         &self,
         alloc: Global,
@@ -28,11 +28,13 @@ pub trait Infer {
         requires held { t.at < length w.old.pool.now }
         requires context_held { ContextBelow (length w.old.pool.now) context.now }
         requires env_held { EnvBelow (length w.old.pool.now) w.old.env.now }
+        requires store_held { StoreBelow (length w.old.pool.now) w.old.store.now }
         ensures same_pool { w.new.pool.ghost_name ≡ w.old.pool.ghost_name }
         ensures env { w.new.env ≡ w.old.env }
+        ensures store { w.new.store ≡ w.old.store }
         ensures kept { Kept w.old.pool.now w.new.pool.now }
-        ensures outcome { Meets (tree_at w.new.pool.now) (infer (environment_in w.old.pool.now w.old.env.now) no_store (reverse (hypotheses_in w.old.pool.now context.now)) (tree_at w.old.pool.now t) w.old.left) w.new.left result }
+        ensures outcome { Meets (tree_at w.new.pool.now) (infer (environment_in w.old.pool.now w.old.env.now) (store_in w.old.pool.now w.old.store.now) (reverse (hypotheses_in w.old.pool.now context.now)) (tree_at w.old.pool.now t) w.old.left) w.new.left result }
         ensures result_held { IfOk result (λ u. u.at < length w.new.pool.now) }
-        ensures typed { IfOk result (λ u. IsTyped (environment_in w.old.pool.now w.old.env.now) (reverse (hypotheses_in w.old.pool.now context.now)) (tree_at w.old.pool.now t) (tree_at w.new.pool.now u)) }
+        ensures typed { IfOk result (λ u. IsTyped (environment_in w.old.pool.now w.old.env.now) (store_in w.old.pool.now w.old.store.now) (reverse (hypotheses_in w.old.pool.now context.now)) (tree_at w.old.pool.now t) (tree_at w.new.pool.now u)) }
         ensures cost { steps.new + w.new.left ≡ steps.old + w.old.left };
 }

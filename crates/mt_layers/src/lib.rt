@@ -4,6 +4,7 @@
 mod convert;
 mod entries;
 mod infer;
+mod instances;
 mod nodes;
 #[cfg(test)]
 mod tests;
@@ -13,6 +14,6 @@ mod work;
 pub use convert::Convert;
 pub use entries::{constructor_type, entry, type_of_constructor};
 pub use infer::Infer;
-pub use nodes::{copy_branches, copy_ids, copy_node};
+pub use nodes::{copy_branches, copy_ids, copy_node, listed_ids};
 pub use whd::Whd;
 pub use work::Work;

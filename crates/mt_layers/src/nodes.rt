@@ -1,5 +1,5 @@
 // Nodes, copied out of a pool that is then changed.
-ghost use Rattle.std.specs.Prelude.{◌≡◌, ◌<◌, length, IfOk};
+ghost use Rattle.std.specs.Prelude.{◌≡◌, ◌<◌, ◌++◌, length, IfOk, OnOk};
 ghost use Rattle.mt_pool.specs.Region.{branches_of, ids_of, tree_at, tree_in, Below};
 
 use mt_pool::{BranchIds, Node, Pool, TermId, TermIds};
@@ -17,6 +17,28 @@ pub fn copy_ids(alloc: Global, s: &TermIds, deep: usize) -> Result<TermIds, OutO
         TermIds::Item(t, rest) => {
             let rest = Box::new(alloc, copy_ids(alloc, rest, deep)?)?;
             Ok(TermIds::Item(*t, rest))
+        }
+    }
+}
+
+/// The ids in a row. More than a bound of them count as want of memory.
+pub fn listed_ids(alloc: Global, s: &TermIds) -> Result<Vec<TermId>, OutOfMemory>
+    ensures { IfOk result (λ v. v.items ≡ ids_of s.now) }
+{
+    let mut listed = Vec::new(alloc);
+    push_ids(&mut listed, s, MOST_DEEP)?;
+    Ok(listed)
+}
+
+fn push_ids(listed: &mut Vec<TermId>, s: &TermIds, deep: usize) -> Result<(), OutOfMemory>
+    ensures { OnOk result (listed.new.items ≡ listed.old.items ++ ids_of s.now) }
+{
+    let deep = deeper(deep)?;
+    match s {
+        TermIds::End => Ok(()),
+        TermIds::Item(t, rest) => {
+            listed.push(*t)?;
+            push_ids(listed, rest, deep)
         }
     }
 }

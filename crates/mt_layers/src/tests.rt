@@ -1,12 +1,15 @@
 // The parts that layers share, with ample memory.
-ghost use Rattle.std.specs.Prelude.{◌≡◌, ◌<◌};
+ghost use Rattle.std.specs.Prelude.{◌≡◌, ◌<◌, length, IfOk};
+ghost use Rattle.mt_pool.specs.Region.{Kept};
 
 use crate::{
-    Work, constructor_type, copy_branches, copy_ids, copy_node, entry, type_of_constructor,
+    Work, constructor_type, copy_branches, copy_ids, copy_node, entry, listed_ids,
+    type_of_constructor,
 };
 use mt_env::{Env, EnvStop};
-use mt_pool::{BranchIds, Held, HeldCons, Node, Pool, TermIds};
-use mt_term::{Cons, Constructor, Entry, Name, Sort, Term};
+use mt_pool::{BranchIds, Context, Held, HeldCons, Node, Pool, TermId, TermIds};
+use mt_store::Store;
+use mt_term::{Cons, Constructor, Entry, Name, OutOfMemory, Sort, Term, Terms};
 use mt_text::{Ledger, PlainLedger, Steps};
 use std::alloc::{AllocFailed, Global};
 use std::sync::ledger::Blank;
@@ -21,9 +24,11 @@ fn charged<L: Ledger>(alloc: Global, left: u64, blank: Blank) -> (bool, bool, u6
     let mut steps = Steps::<L>::new(blank);
     let mut pool = Pool::new(alloc);
     let env = Env::new(alloc);
+    let mut store = Store::new(alloc);
     let mut w = Work {
         pool: &mut pool,
         env: &env,
+        store: &mut store,
         left,
     };
     let first = w.charge(&mut steps).is_ok();
@@ -91,5 +96,53 @@ fn nodes_are_copied(rt: HostRuntime) -> Result<(), Fail> {
     assert!(rt; matches!(ids, TermIds::End));
     let branches = copy_branches(alloc, &BranchIds::End, 1)?;
     assert!(rt; matches!(branches, BranchIds::End));
+    Ok(())
+}
+
+#[test]
+fn ids_keep_their_order(rt: HostRuntime) -> Result<(), Fail> {
+    let alloc = rt.alloc();
+    let (first, second) = (TermId { at: 5 }, TermId { at: 3 });
+    let last = TermIds::Item(second, Box::new(alloc, TermIds::End)?);
+    let ids = TermIds::Item(first, Box::new(alloc, last)?);
+    let listed = listed_ids(alloc, &ids)?;
+    assert_eq!(rt; listed.as_slice(), [first, second].as_slice());
+    let copy = copy_ids(alloc, &ids, 3)?;
+    assert_eq!(rt; listed_ids(alloc, &copy)?.as_slice(), listed.as_slice());
+    assert!(rt; copy_ids(alloc, &ids, 2).is_err());
+    Ok(())
+}
+
+// The id of the instance of a metavariable without terms whose body is this term.
+#[tactic(auto, using(mt_pool::proofs::Region::kept, crate::proofs::Kept::environment_rules, crate::proofs::Kept::added_rules))]
+fn instance_of_assigned(alloc: Global, pool: &mut Pool, body: TermId) -> Result<TermId, OutOfMemory>
+    requires { body.at < length pool.old }
+    ensures kept { Kept pool.old pool.new }
+    ensures held { IfOk result (λ u. u.at < length pool.new) }
+{
+    let t = pool.import(alloc, &Term::Meta(0, Terms::End))?;
+    let env = Env::new(alloc);
+    let mut store = Store::new(alloc);
+    store.declare(pool, &Context::new(alloc), body)?;
+    if store.is_open(0) {
+        store.assign(pool, 0, body)?;
+    }
+    let mut w = Work {
+        pool: &mut *pool,
+        env: &env,
+        store: &mut store,
+        left: 0,
+    };
+    w.instance(alloc, t)
+}
+
+#[test]
+#[tactic(auto, using(mt_pool::proofs::Region::kept))]
+fn an_assigned_metavariable_is_its_body(rt: HostRuntime) -> Result<(), Fail> {
+    let alloc = rt.alloc();
+    let mut pool = Pool::new(alloc);
+    let body = pool.import(alloc, &Term::Con(3, 4))?;
+    let instance = instance_of_assigned(alloc, &mut pool, body)?;
+    assert!(rt; pool.alike(instance, body));
     Ok(())
 }

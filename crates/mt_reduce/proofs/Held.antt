@@ -1,8 +1,8 @@
 -- What arguments say as a pool grows, and how terms are filled one by one.
-use Rattle.std.proofs.Common.{Bool, false, nat_eq, Option, Some, None, ℕ, zero, suc, ◌+◌, ◌<◌, ◌≤◌, ◌≡◌, List, length, refl, ap, sym, ◌∙◌, arith}
+use Rattle.std.proofs.Common.{false, nat_eq, Option, Some, None, ℕ, zero, suc, ◌≤◌, ◌≡◌, List, length, refl, ap, sym, ◌∙◌, arith}
 use mathlib.Core.Path.{fun_ext}
 use Rattle.mt_term.specs.Trees.{Tree, Trees, Var, Meta, End, Item}
-use Rattle.mt_term.specs.Substitution.{ren, sub, fill, up, then_as, put, substitute, count}
+use Rattle.mt_term.specs.Substitution.{sub, fill, up, then_as, put, substitute, count}
 use Rattle.mt_term.specs.Contraction.{products}
 use Rattle.mt_term.specs.Declarations.{Constructor}
 use Rattle.mt_term.specs.Inference.{constructor_type}

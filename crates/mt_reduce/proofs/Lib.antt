@@ -1,2 +1,4 @@
 pub mod Held
 pub mod Reached
+pub mod Bodies
+pub mod Matches

@@ -1,7 +1,6 @@
 -- The arguments that reduction holds.
 use Rattle.std.specs.Prelude.{ℕ, ◌<◌, List}
 use Rattle.mt_term.specs.Trees.{Tree, Trees, End, Item}
-use Rattle.mt_pool.specs.declared.nodes.TermId.{TermId}
 use Rattle.mt_pool.specs.Region.{tree_at}
 use Rattle.mt_reduce.specs.declared.arguments.Args.{Args, End as NoMore, More'}
 

@@ -3,6 +3,7 @@
 
 mod arguments;
 mod branches;
+mod metavariables;
 mod normalization;
 mod reducer;
 mod reduction;

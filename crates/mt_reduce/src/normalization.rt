@@ -3,7 +3,7 @@ ghost use Rattle.std.specs.Prelude.{◌≡◌, ◌<◌, ◌+◌, ◌∷◌, leng
 ghost use Rattle.mt_layers.specs.Environments.{environment_in, EnvBelow};
 ghost use Rattle.mt_layers.specs.Meets.{Meets, IsNoRefusal};
 ghost use Rattle.mt_pool.specs.Region.{arms_at, branches_of, ids_of, tree_at, trees_at, AllBelow, ArmsBelow, Kept};
-ghost use Rattle.mt_term.specs.Stores.{no_store};
+ghost use Rattle.mt_store.specs.Held.{store_in, StoreBelow};
 ghost use Rattle.mt_term.specs.Trees.{Match, Meta};
 ghost use Rattle.mt_term.specs.WeakHead.{normal, normal_arms, normal_parts, normal_terms};
 
@@ -27,10 +27,12 @@ pub fn normal<L: Ledger>(
 ) -> Result<TermId, Stop>
     requires held { t.at < length w.old.pool.now }
     requires env_held { EnvBelow (length w.old.pool.now) w.old.env.now }
+    requires store_held { StoreBelow (length w.old.pool.now) w.old.store.now }
     ensures same_pool { w.new.pool.ghost_name ≡ w.old.pool.ghost_name }
     ensures env { w.new.env ≡ w.old.env }
+    ensures store { w.new.store ≡ w.old.store }
     ensures kept { Kept w.old.pool.now w.new.pool.now }
-    ensures outcome { Meets (tree_at w.new.pool.now) (normal (environment_in w.old.pool.now w.old.env.now) no_store (tree_at w.old.pool.now t) w.old.left) w.new.left result }
+    ensures outcome { Meets (tree_at w.new.pool.now) (normal (environment_in w.old.pool.now w.old.env.now) (store_in w.old.pool.now w.old.store.now) (tree_at w.old.pool.now t) w.old.left) w.new.left result }
     ensures result_held { IfOk result (λ u. u.at < length w.new.pool.now) }
     ensures unrefused { IfErr result (λ e. IsNoRefusal e) }
     ensures cost { steps.new + w.new.left ≡ steps.old + w.old.left }
@@ -52,10 +54,12 @@ fn normal_parts<L: Ledger>(
 ) -> Result<TermId, Stop>
     requires held { t.at < length w.old.pool.now }
     requires env_held { EnvBelow (length w.old.pool.now) w.old.env.now }
+    requires store_held { StoreBelow (length w.old.pool.now) w.old.store.now }
     ensures same_pool { w.new.pool.ghost_name ≡ w.old.pool.ghost_name }
     ensures env { w.new.env ≡ w.old.env }
+    ensures store { w.new.store ≡ w.old.store }
     ensures kept { Kept w.old.pool.now w.new.pool.now }
-    ensures outcome { Meets (tree_at w.new.pool.now) (normal_parts (environment_in w.old.pool.now w.old.env.now) no_store (tree_at w.old.pool.now t) w.old.left) w.new.left result }
+    ensures outcome { Meets (tree_at w.new.pool.now) (normal_parts (environment_in w.old.pool.now w.old.env.now) (store_in w.old.pool.now w.old.store.now) (tree_at w.old.pool.now t) w.old.left) w.new.left result }
     ensures result_held { IfOk result (λ u. u.at < length w.new.pool.now) }
     ensures unrefused { IfErr result (λ e. IsNoRefusal e) }
     ensures cost { steps.new + w.new.left ≡ steps.old + w.old.left }
@@ -118,10 +122,12 @@ fn normal_match<L: Ledger>(
     requires matched { c.at < length w.old.pool.now }
     requires branches { ArmsBelow (length w.old.pool.now) (branches_of bs.now) }
     requires env_held { EnvBelow (length w.old.pool.now) w.old.env.now }
+    requires store_held { StoreBelow (length w.old.pool.now) w.old.store.now }
     ensures same_pool { w.new.pool.ghost_name ≡ w.old.pool.ghost_name }
     ensures env { w.new.env ≡ w.old.env }
+    ensures store { w.new.store ≡ w.old.store }
     ensures kept { Kept w.old.pool.now w.new.pool.now }
-    ensures outcome { Meets (tree_at w.new.pool.now) (normal_parts (environment_in w.old.pool.now w.old.env.now) no_store (Match e (tree_at w.old.pool.now r) (tree_at w.old.pool.now c) (arms_at w.old.pool.now (branches_of bs.now))) w.old.left) w.new.left result }
+    ensures outcome { Meets (tree_at w.new.pool.now) (normal_parts (environment_in w.old.pool.now w.old.env.now) (store_in w.old.pool.now w.old.store.now) (Match e (tree_at w.old.pool.now r) (tree_at w.old.pool.now c) (arms_at w.old.pool.now (branches_of bs.now))) w.old.left) w.new.left result }
     ensures result_held { IfOk result (λ u. u.at < length w.new.pool.now) }
     ensures unrefused { IfErr result (λ e. IsNoRefusal e) }
     ensures cost { steps.new + w.new.left ≡ steps.old + w.old.left }
@@ -146,10 +152,12 @@ fn normal_meta<L: Ledger>(
 ) -> Result<TermId, Stop>
     requires terms { AllBelow (length w.old.pool.now) (ids_of s.now) }
     requires env_held { EnvBelow (length w.old.pool.now) w.old.env.now }
+    requires store_held { StoreBelow (length w.old.pool.now) w.old.store.now }
     ensures same_pool { w.new.pool.ghost_name ≡ w.old.pool.ghost_name }
     ensures env { w.new.env ≡ w.old.env }
+    ensures store { w.new.store ≡ w.old.store }
     ensures kept { Kept w.old.pool.now w.new.pool.now }
-    ensures outcome { Meets (tree_at w.new.pool.now) (normal_parts (environment_in w.old.pool.now w.old.env.now) no_store (Meta n (trees_at w.old.pool.now (ids_of s.now))) w.old.left) w.new.left result }
+    ensures outcome { Meets (tree_at w.new.pool.now) (normal_parts (environment_in w.old.pool.now w.old.env.now) (store_in w.old.pool.now w.old.store.now) (Meta n (trees_at w.old.pool.now (ids_of s.now))) w.old.left) w.new.left result }
     ensures result_held { IfOk result (λ u. u.at < length w.new.pool.now) }
     ensures unrefused { IfErr result (λ e. IsNoRefusal e) }
     ensures cost { steps.new + w.new.left ≡ steps.old + w.old.left }
@@ -171,10 +179,12 @@ fn normal_ids<L: Ledger>(
 ) -> Result<TermIds, Stop>
     requires held { AllBelow (length w.old.pool.now) (ids_of s.now) }
     requires env_held { EnvBelow (length w.old.pool.now) w.old.env.now }
+    requires store_held { StoreBelow (length w.old.pool.now) w.old.store.now }
     ensures same_pool { w.new.pool.ghost_name ≡ w.old.pool.ghost_name }
     ensures env { w.new.env ≡ w.old.env }
+    ensures store { w.new.store ≡ w.old.store }
     ensures kept { Kept w.old.pool.now w.new.pool.now }
-    ensures outcome { Meets (λ r. trees_at w.new.pool.now (ids_of r)) (normal_terms (environment_in w.old.pool.now w.old.env.now) no_store (trees_at w.old.pool.now (ids_of s.now)) w.old.left) w.new.left result }
+    ensures outcome { Meets (λ r. trees_at w.new.pool.now (ids_of r)) (normal_terms (environment_in w.old.pool.now w.old.env.now) (store_in w.old.pool.now w.old.store.now) (trees_at w.old.pool.now (ids_of s.now)) w.old.left) w.new.left result }
     ensures result_held { IfOk result (λ r. AllBelow (length w.new.pool.now) (ids_of r)) }
     ensures unrefused { IfErr result (λ e. IsNoRefusal e) }
     ensures cost { steps.new + w.new.left ≡ steps.old + w.old.left }
@@ -202,10 +212,12 @@ fn normal_branches<L: Ledger>(
 ) -> Result<BranchIds, Stop>
     requires held { ArmsBelow (length w.old.pool.now) (branches_of bs.now) }
     requires env_held { EnvBelow (length w.old.pool.now) w.old.env.now }
+    requires store_held { StoreBelow (length w.old.pool.now) w.old.store.now }
     ensures same_pool { w.new.pool.ghost_name ≡ w.old.pool.ghost_name }
     ensures env { w.new.env ≡ w.old.env }
+    ensures store { w.new.store ≡ w.old.store }
     ensures kept { Kept w.old.pool.now w.new.pool.now }
-    ensures outcome { Meets (λ cs. arms_at w.new.pool.now (branches_of cs)) (normal_arms (environment_in w.old.pool.now w.old.env.now) no_store (arms_at w.old.pool.now (branches_of bs.now)) w.old.left) w.new.left result }
+    ensures outcome { Meets (λ cs. arms_at w.new.pool.now (branches_of cs)) (normal_arms (environment_in w.old.pool.now w.old.env.now) (store_in w.old.pool.now w.old.store.now) (arms_at w.old.pool.now (branches_of bs.now)) w.old.left) w.new.left result }
     ensures result_held { IfOk result (λ cs. ArmsBelow (length w.new.pool.now) (branches_of cs)) }
     ensures unrefused { IfErr result (λ e. IsNoRefusal e) }
     ensures cost { steps.new + w.new.left ≡ steps.old + w.old.left }

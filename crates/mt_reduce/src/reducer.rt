@@ -3,8 +3,8 @@ ghost use Rattle.std.specs.Prelude.{◌≡◌, ◌<◌, ◌+◌, length, IfOk, I
 ghost use Rattle.mt_layers.specs.Environments.{environment_in, EnvBelow};
 ghost use Rattle.mt_layers.specs.Meets.{Meets, IsNoRefusal};
 ghost use Rattle.mt_pool.specs.Region.{tree_at, Kept};
+ghost use Rattle.mt_store.specs.Held.{store_in, StoreBelow};
 ghost use Rattle.mt_term.specs.ReductionLaws.{ReachedFrom};
-ghost use Rattle.mt_term.specs.Stores.{no_store};
 ghost use Rattle.mt_term.specs.WeakHead.{normal};
 
 use crate::normalization::normal;
@@ -36,13 +36,15 @@ impl Reducer {
     ) -> Result<TermId, Stop>
         requires held { t.at < length w.old.pool.now }
         requires env_held { EnvBelow (length w.old.pool.now) w.old.env.now }
+        requires store_held { StoreBelow (length w.old.pool.now) w.old.store.now }
         ensures same_pool { w.new.pool.ghost_name ≡ w.old.pool.ghost_name }
         ensures env { w.new.env ≡ w.old.env }
+        ensures store { w.new.store ≡ w.old.store }
         ensures kept { Kept w.old.pool.now w.new.pool.now }
-        ensures outcome { Meets (tree_at w.new.pool.now) (normal (environment_in w.old.pool.now w.old.env.now) no_store (tree_at w.old.pool.now t) w.old.left) w.new.left result }
+        ensures outcome { Meets (tree_at w.new.pool.now) (normal (environment_in w.old.pool.now w.old.env.now) (store_in w.old.pool.now w.old.store.now) (tree_at w.old.pool.now t) w.old.left) w.new.left result }
         ensures result_held { IfOk result (λ u. u.at < length w.new.pool.now) }
         ensures unrefused { IfErr result (λ e. IsNoRefusal e) }
-        ensures reached { IfOk result (λ u. ReachedFrom (environment_in w.old.pool.now w.old.env.now) no_store (tree_at w.old.pool.now t) (tree_at w.new.pool.now u)) }
+        ensures reached { IfOk result (λ u. ReachedFrom (environment_in w.old.pool.now w.old.env.now) (store_in w.old.pool.now w.old.store.now) (tree_at w.old.pool.now t) (tree_at w.new.pool.now u)) }
         ensures cost { steps.new + w.new.left ≡ steps.old + w.old.left }
     {
         normal(alloc, w, t, MOST_DEEP, steps)

@@ -4,13 +4,14 @@ ghost use Rattle.mt_layers.specs.Environments.{environment_in, found_in, EnvBelo
 ghost use Rattle.mt_layers.specs.Meets.{Meets, IsNoRefusal};
 ghost use Rattle.mt_pool.specs.Region.{tree_at, Kept};
 ghost use Rattle.mt_reduce.specs.Arguments.{args_in, ArgsBelow};
-ghost use Rattle.mt_term.specs.Stores.{no_store};
+ghost use Rattle.mt_store.specs.Held.{store_in, StoreBelow};
 ghost use Rattle.mt_term.specs.Trees.{Const};
 ghost use Rattle.mt_term.specs.WeakHead.{look, whd};
 
 use crate::arguments::{Args, apply, apply_with, argument, beta, on_args};
 use crate::branches::{is_full, matched};
-use mt_layers::{Work, copy_branches, entry};
+use crate::metavariables::body_under;
+use mt_layers::{Work, copy_branches, copy_ids, entry};
 use mt_pool::{Held, Node, TermId};
 use mt_term::{Stop, deeper};
 use mt_text::{Ledger, Steps};
@@ -28,10 +29,12 @@ pub fn whd<L: Ledger>(
 ) -> Result<TermId, Stop>
     requires held { t.at < length w.old.pool.now }
     requires env_held { EnvBelow (length w.old.pool.now) w.old.env.now }
+    requires store_held { StoreBelow (length w.old.pool.now) w.old.store.now }
     ensures same_pool { w.new.pool.ghost_name ≡ w.old.pool.ghost_name }
     ensures env { w.new.env ≡ w.old.env }
+    ensures store { w.new.store ≡ w.old.store }
     ensures kept { Kept w.old.pool.now w.new.pool.now }
-    ensures outcome { Meets (tree_at w.new.pool.now) (whd (environment_in w.old.pool.now w.old.env.now) no_store (tree_at w.old.pool.now t) w.old.left) w.new.left result }
+    ensures outcome { Meets (tree_at w.new.pool.now) (whd (environment_in w.old.pool.now w.old.env.now) (store_in w.old.pool.now w.old.store.now) (tree_at w.old.pool.now t) w.old.left) w.new.left result }
     ensures result_held { IfOk result (λ u. u.at < length w.new.pool.now) }
     ensures unrefused { IfErr result (λ e. IsNoRefusal e) }
     ensures cost { steps.new + w.new.left ≡ steps.old + w.old.left }
@@ -59,10 +62,12 @@ pub fn look<L: Ledger>(
     requires held { t.at < length w.old.pool.now }
     requires others { ArgsBelow (length w.old.pool.now) args.now }
     requires env_held { EnvBelow (length w.old.pool.now) w.old.env.now }
+    requires store_held { StoreBelow (length w.old.pool.now) w.old.store.now }
     ensures same_pool { w.new.pool.ghost_name ≡ w.old.pool.ghost_name }
     ensures env { w.new.env ≡ w.old.env }
+    ensures store { w.new.store ≡ w.old.store }
     ensures kept { Kept w.old.pool.now w.new.pool.now }
-    ensures outcome { Meets (found_in w.new.pool.now) (look (environment_in w.old.pool.now w.old.env.now) no_store (tree_at w.old.pool.now t) (args_in w.old.pool.now args.now) w.old.left) w.new.left result }
+    ensures outcome { Meets (found_in w.new.pool.now) (look (environment_in w.old.pool.now w.old.env.now) (store_in w.old.pool.now w.old.store.now) (tree_at w.old.pool.now t) (args_in w.old.pool.now args.now) w.old.left) w.new.left result }
     ensures result_held { IfOk result (λ o. FoundBelow (length w.new.pool.now) o) }
     ensures unrefused { IfErr result (λ e. IsNoRefusal e) }
     ensures cost { steps.new + w.new.left ≡ steps.old + w.old.left }
@@ -93,12 +98,14 @@ pub fn look<L: Ledger>(
             let found = on_args(w.pool, found, args)?;
             Ok(found)
         }
-        Node::Var(_)
-        | Node::Sort(_)
-        | Node::Prod(..)
-        | Node::Ind(_)
-        | Node::Con(..)
-        | Node::Meta(..) => Ok(None),
+        Node::Meta(n, s) => {
+            let n = *n;
+            let s = copy_ids(alloc, s, deep)?;
+            let found = body_under(w.pool, alloc, w.store, n, &s)?;
+            let found = on_args(w.pool, found, args)?;
+            Ok(found)
+        }
+        Node::Var(_) | Node::Sort(_) | Node::Prod(..) | Node::Ind(_) | Node::Con(..) => Ok(None),
     }
 }
 
@@ -115,10 +122,12 @@ fn unfold<L: Ledger>(
 ) -> Result<Option<TermId>, Stop>
     requires others { ArgsBelow (length w.old.pool.now) args.now }
     requires env_held { EnvBelow (length w.old.pool.now) w.old.env.now }
+    requires store_held { StoreBelow (length w.old.pool.now) w.old.store.now }
     ensures same_pool { w.new.pool.ghost_name ≡ w.old.pool.ghost_name }
     ensures env { w.new.env ≡ w.old.env }
+    ensures store { w.new.store ≡ w.old.store }
     ensures kept { Kept w.old.pool.now w.new.pool.now }
-    ensures outcome { Meets (found_in w.new.pool.now) (look (environment_in w.old.pool.now w.old.env.now) no_store (Const c) (args_in w.old.pool.now args.now) w.old.left) w.new.left result }
+    ensures outcome { Meets (found_in w.new.pool.now) (look (environment_in w.old.pool.now w.old.env.now) (store_in w.old.pool.now w.old.store.now) (Const c) (args_in w.old.pool.now args.now) w.old.left) w.new.left result }
     ensures result_held { IfOk result (λ o. FoundBelow (length w.new.pool.now) o) }
     ensures unrefused { IfErr result (λ e. IsNoRefusal e) }
     ensures cost { steps.new + w.new.left ≡ steps.old + w.old.left }

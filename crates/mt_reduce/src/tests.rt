@@ -5,6 +5,7 @@ use crate::Reducer;
 use mt_env::Env;
 use mt_layers::{Whd, Work};
 use mt_pool::Pool;
+use mt_store::Store;
 use mt_term::{Name, OutOfMemory, Sort, Stop, Term};
 use mt_text::{Ledger, PlainLedger, Steps};
 use std::alloc::{AllocFailed, Global};
@@ -28,11 +29,13 @@ fn reduced<L: Ledger>(
     let mut steps = Steps::<L>::new(blank);
     let mut pool = Pool::new(alloc);
     let env = Env::new(alloc);
+    let mut store = Store::new(alloc);
     let t = pool.import(alloc, t)?;
     let expected = pool.import(alloc, expected)?;
     let mut w = Work {
         pool: &mut pool,
         env: &env,
+        store: &mut store,
         left: allowance,
     };
     let outcome = if whole {

@@ -1,4 +1,3 @@
-use Rattle.mt_pool.specs.Region.{ids_of}
 use Rattle.mt_pool.proofs.Region.{all-below}
 use Rattle.mt_infer.specs.Families.{FamilyBelow}
 use Rattle.mt_infer.proofs.Held.{types-below}

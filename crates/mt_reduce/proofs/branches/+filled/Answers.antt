@@ -1,4 +1,4 @@
-use Rattle.std.proofs.Common.{◌≡◌, IfOk, subst}
+use Rattle.std.proofs.Common.{IfOk, subst}
 use Rattle.mt_term.specs.Trees.{Tree}
 use Rattle.mt_pool.specs.Region.{Names}
 use Rattle.mt_reduce.proofs.Held.{fill-next}

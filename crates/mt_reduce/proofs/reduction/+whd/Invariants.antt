@@ -1,7 +1,7 @@
 use Rattle.std.proofs.Common.{◌≡◌, ◌+◌, ◌<◌, length}
 use Rattle.mt_layers.specs.Environments.{environment_in, EnvBelow}
 use Rattle.mt_pool.specs.Region.{tree_at, Kept}
-use Rattle.mt_term.specs.Stores.{no_store}
+use Rattle.mt_store.specs.Held.{store_in, StoreBelow}
 use Rattle.mt_term.specs.WeakHead.{whd}
 use Rattle.mt_reduce.proofs.reduction.+whd.Given as goal
 
@@ -18,10 +18,12 @@ abbrev pub invariant-whd-loop-next : goal.invariant-whd-loop-next
 invariant-whd-loop-next g l = record {
   same_pool : l.w.pool.ghost_name ≡ l.initial.w.pool.ghost_name;
   env : l.w.env ≡ l.initial.w.env;
+  store : l.w.store ≡ l.initial.w.store;
   kept : Kept l.initial.w.pool.now l.w.pool.now;
   held : l.head.at < length l.w.pool.now;
   env_held : EnvBelow (length l.w.pool.now) l.w.env.now;
-  same : whd (environment_in l.initial.w.pool.now l.initial.w.env.now) no_store (tree_at l.initial.w.pool.now l.initial.head) l.initial.w.left ≡ whd (environment_in l.initial.w.pool.now l.initial.w.env.now) no_store (tree_at l.w.pool.now l.head) l.w.left;
+  store_held : StoreBelow (length l.w.pool.now) l.w.store.now;
+  same : whd (environment_in l.initial.w.pool.now l.initial.w.env.now) (store_in l.initial.w.pool.now l.initial.w.store.now) (tree_at l.initial.w.pool.now l.initial.head) l.initial.w.left ≡ whd (environment_in l.initial.w.pool.now l.initial.w.env.now) (store_in l.initial.w.pool.now l.initial.w.store.now) (tree_at l.w.pool.now l.head) l.w.left;
   cost : l.steps + l.w.left ≡ l.initial.steps + l.initial.w.left;
 }
 
