@@ -4,7 +4,5 @@
 mod comparer;
 mod comparison;
 mod sorts;
-#[cfg(test)]
-mod tests;
 
 pub use comparer::Comparer;

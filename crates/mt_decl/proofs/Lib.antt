@@ -15,4 +15,3 @@ pub mod GrowingRules
 pub mod EndRules
 pub mod UnitRules
 pub mod FunctionRules
-pub mod HoldingRules

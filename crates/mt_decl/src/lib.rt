@@ -13,10 +13,6 @@ mod functions;
 mod groups;
 mod judging;
 mod telescopes;
-#[cfg(test)]
-mod tests;
-#[cfg(test)]
-mod unit_tests;
 
 pub use declaring::declare_plain;
 pub use telescopes::{Telescope, abstracted, generalized, result_sort};

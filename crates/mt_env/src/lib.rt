@@ -8,8 +8,6 @@ mod plain;
 mod refs;
 mod stops;
 mod table;
-#[cfg(test)]
-mod tests;
 
 pub use environments::{Env, EnvMark};
 pub use holding::hold;

@@ -7,8 +7,6 @@ mod guarding;
 mod laws;
 mod marks;
 mod recursion;
-#[cfg(test)]
-mod tests;
 
 pub use guarding::guarded;
 pub use laws::{co_guard_by_test, guard_by_test};

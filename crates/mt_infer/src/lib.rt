@@ -14,7 +14,5 @@ mod matching;
 mod metavariables;
 mod scopes;
 mod sorts;
-#[cfg(test)]
-mod tests;
 
 pub use inferrer::Inferrer;

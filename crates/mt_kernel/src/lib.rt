@@ -16,15 +16,11 @@ mod contexts;
 mod elimination;
 mod expected;
 mod families;
-#[cfg(test)]
-mod inductive_tests;
 mod inference;
 mod matching;
 mod order;
 mod reduction;
 mod sorts;
-#[cfg(test)]
-mod tests;
 
 use crate::contexts::Context;
 use crate::expected::agree;

@@ -6,8 +6,6 @@ mod entries;
 mod infer;
 mod instances;
 mod nodes;
-#[cfg(test)]
-mod tests;
 mod whd;
 mod work;
 

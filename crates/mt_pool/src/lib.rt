@@ -13,8 +13,6 @@ mod nodes;
 mod pools;
 mod replacement;
 mod substitution;
-#[cfg(test)]
-mod tests;
 
 pub use contexts::{Context, HeldHyp};
 pub use held::{Held, HeldCons, HeldConstructor};

@@ -3,8 +3,6 @@
 
 mod arguments;
 mod constructors;
-#[cfg(test)]
-mod tests;
 
 pub use arguments::{Family, avoid_terms, avoids, is_recursive, is_type_on};
 pub use constructors::{positive, products};

@@ -16,8 +16,6 @@ mod scopes;
 mod sorts;
 mod telescopes;
 mod terms;
-#[cfg(test)]
-mod tests;
 mod walks;
 
 pub use columns::column;

@@ -7,13 +7,3 @@ ghost use Rattle.mt_reading_laws.specs.ReadingBack.{ReadingBack};
 pub fn reading_back()
     ensures law { ReadingBack }
 {}
-
-#[cfg(test)]
-mod tests {
-    use super::*;
-
-    #[test]
-    fn law(_rt: HostRuntime) {
-        reading_back();
-    }
-}

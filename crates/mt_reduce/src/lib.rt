@@ -7,7 +7,5 @@ mod metavariables;
 mod normalization;
 mod reducer;
 mod reduction;
-#[cfg(test)]
-mod tests;
 
 pub use reducer::Reducer;

@@ -8,8 +8,6 @@ mod resolving;
 mod scopes;
 mod sorts;
 mod table;
-#[cfg(test)]
-mod tests;
 
 pub use built::is_built;
 pub use meanings::Meaning;

@@ -14,6 +14,3 @@ mod sessions;
 mod tasks;
 
 pub use serving::{Status, serve};
-
-#[cfg(test)]
-mod tests;

@@ -6,8 +6,6 @@ mod metavariables;
 mod plain;
 mod reaching;
 mod stores;
-#[cfg(test)]
-mod tests;
 
 pub use metavariables::HeldMeta;
 pub use stores::Store;

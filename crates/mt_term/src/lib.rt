@@ -21,8 +21,6 @@ mod states;
 mod stores;
 mod substitution;
 mod terms;
-#[cfg(test)]
-mod tests;
 mod universe_forms;
 mod universes;
 

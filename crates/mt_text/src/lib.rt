@@ -8,8 +8,6 @@ mod memory;
 mod sinks;
 mod sources;
 mod steady;
-#[cfg(test)]
-mod tests;
 
 pub use adapters::{ReadAdapter, WriteAdapter};
 pub use counting::{PlainLedger, Steps};

@@ -27,17 +27,3 @@ pub fn unification_gives_conversion()
 pub fn reach_by_test()
     ensures law { ReachTestLaw }
 {}
-
-#[cfg(test)]
-mod tests {
-    use super::*;
-
-    #[test]
-    fn laws(_rt: HostRuntime) {
-        going_by_allowance();
-        refusal_shows_terms();
-        store_grows();
-        unification_gives_conversion();
-        reach_by_test();
-    }
-}

@@ -17,15 +17,3 @@ pub fn place_of_unit()
 pub fn place_of_fault()
     ensures law { FaultLaw }
 {}
-
-#[cfg(test)]
-mod tests {
-    use super::*;
-
-    #[test]
-    fn laws(_rt: HostRuntime) {
-        unit_by_seen_bytes();
-        place_of_unit();
-        place_of_fault();
-    }
-}

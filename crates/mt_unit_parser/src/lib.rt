@@ -12,6 +12,3 @@ pub use units::{
     Action, ActionShape, Group, Groups, Parsed, RawCon, RawCons, RawEq, RawEqs, RawFunction,
     RawFunctions, RawType, RawTypes, Unit, UnitKind,
 };
-
-#[cfg(test)]
-mod tests;

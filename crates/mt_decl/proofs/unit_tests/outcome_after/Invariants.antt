@@ -1,4 +1,0 @@
-use Rattle.mt_decl.proofs.unit_tests.outcome_after.Given as goal
-
-abbrev pub ghosts-told_after : goal.ghosts-told_after
-ghosts-told_after a = record { name = a.blank.name; parts = a.blank.parts }

@@ -1,0 +1,7 @@
+//! Calls of the kernel with ample memory, and worked costs.
+#![tactic(auto)]
+
+#[cfg(test)]
+mod inductive;
+#[cfg(test)]
+mod kernel;

@@ -1,4 +1,0 @@
-use Rattle.mt_layers.proofs.tests.charged_from.Given as goal
-
-abbrev pub ghosts-charged : goal.ghosts-charged
-ghosts-charged a = record { name = a.blank.name; parts = a.blank.parts }

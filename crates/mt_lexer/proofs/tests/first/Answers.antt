@@ -1,5 +1,0 @@
-use Rattle.std.proofs.lemmas.Str.{IsCharBoundary-start}
-use Rattle.mt_lexer.proofs.tests.first.Goals as goal
-
-pub next-requires : goal.next-requires
-next-requires c = IsCharBoundary-start c.args.text.now c.utf8.text

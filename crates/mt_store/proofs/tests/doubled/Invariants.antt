@@ -1,5 +1,0 @@
-use Rattle.std.proofs.Common.{◌<◌, length}
-use Rattle.mt_store.proofs.tests.doubled.Given as goal
-
-abbrev pub invariant-loop : goal.invariant-loop
-invariant-loop l = l.t.at < length l.pool

@@ -1,0 +1,5 @@
+use Rattle.std.proofs.lemmas.Str.{IsCharBoundary-start}
+use Rattle.mt_syntax_tests.proofs.unit_parser.parts.Goals as goal
+
+pub unit_at-requires : goal.unit_at-requires
+unit_at-requires c = IsCharBoundary-start c.args.text.now c.utf8.text
