@@ -1,6 +1,6 @@
 // Units of every production, and every fault.
 use mt_term::Halt;
-use mt_unit_parser::{Parsed, UnitKind, unit_at};
+use mt_unit_parser::{Parsed, RawEqs, RawFunctions, RawTypes, UnitKind, unit_at};
 use std::alloc::Global;
 
 // What a text begins with: a unit (its kind, place, end and what was seen of the text), no
