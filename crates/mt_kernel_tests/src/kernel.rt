@@ -11,20 +11,20 @@ use std::alloc::{AllocFailed, Global};
 use std::sync::ledger::Blank;
 use std::test::Fail;
 
-pub(crate) fn typ(alloc: Global, base: u32) -> Term {
+fn typ(alloc: Global, base: u32) -> Term {
     Term::Sort(Sort::Typ(UnivExpr {
         base,
         atoms: Atoms::new(alloc),
     }))
 }
 
-pub(crate) fn prod(alloc: Global, domain: Term, codomain: Term) -> Result<Term, OutOfMemory> {
+fn prod(alloc: Global, domain: Term, codomain: Term) -> Result<Term, OutOfMemory> {
     let domain = Box::new(alloc, domain)?;
     let codomain = Box::new(alloc, codomain)?;
     Ok(Term::Prod(Name::new(alloc), domain, codomain))
 }
 
-pub(crate) fn lam(alloc: Global, domain: Term, body: Term) -> Result<Term, OutOfMemory> {
+fn lam(alloc: Global, domain: Term, body: Term) -> Result<Term, OutOfMemory> {
     let domain = Box::new(alloc, domain)?;
     let body = Box::new(alloc, body)?;
     Ok(Term::Lam(Name::new(alloc), domain, body))
@@ -95,7 +95,7 @@ fn says(alloc: Global, term: &Term, ty: &Term, allowance: u64) -> Result<(u8, u6
     says_in(alloc, &empty(alloc), term, ty, allowance)
 }
 
-pub(crate) fn says_in(
+fn says_in(
     alloc: Global,
     env: &PlainEnv,
     term: &Term,

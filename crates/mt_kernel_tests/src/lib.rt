@@ -2,6 +2,4 @@
 #![tactic(auto)]
 
 #[cfg(test)]
-mod inductive;
-#[cfg(test)]
 mod kernel;
