@@ -184,32 +184,48 @@ fn a_metavariable_keeps_its_terms(rt: HostRuntime) -> Result<(), Fail> {
     Ok(())
 }
 
-#[test]
-fn contexts_and_constructors_are_lists(rt: HostRuntime) -> Result<(), Fail> {
-    let alloc = rt.alloc();
-    let ty = TermId { at: 0 };
-    let mut context = Context::new(alloc);
-    context.push(HeldHyp {
-        name: Name::from_bytes(alloc, b"x")?,
-        ty,
-    })?;
-    let context = context.clone()?;
-    assert!(rt; context.len() == 1 && context.as_slice().len() == 1);
-    assert!(rt; context.get(0).is_some() && context.get(1).is_none());
+// A constructor of this type.
+fn one_constructor(alloc: Global, ty: TermId) -> Result<HeldCons, AllocError> {
     let mut cons = HeldCons::new(alloc);
     cons.push(HeldConstructor {
-        name: Name::from_bytes(alloc, b"c")?,
+        name: Name::new(alloc),
         ty,
     })?;
-    let cons = cons.clone()?;
+    cons.clone()
+}
+
+#[test]
+fn constructors_are_a_list(rt: HostRuntime) -> Result<(), Fail> {
+    let cons = one_constructor(rt.alloc(), TermId { at: 0 })?;
     assert!(rt; cons.len() == 1 && cons.as_slice().len() == 1);
     assert!(rt; cons.get(0).is_some() && cons.get(1).is_none());
+    Ok(())
+}
+
+#[test]
+fn contexts_are_lists(rt: HostRuntime) -> Result<(), Fail> {
+    let alloc = rt.alloc();
+    let mut first = Context::new(alloc);
+    first.push(HeldHyp {
+        name: Name::new(alloc),
+        ty: TermId { at: 0 },
+    })?;
+    let context = first.clone()?;
+    assert!(rt; context.len() == 1 && context.as_slice().len() == 1);
+    assert!(rt; context.get(0).is_some() && context.get(1).is_none());
+    Ok(())
+}
+
+#[test]
+fn an_entry_is_copied(rt: HostRuntime) -> Result<(), Fail> {
+    let alloc = rt.alloc();
+    let ty = TermId { at: 0 };
     let entry = Held::Inductive {
-        name: Name::from_bytes(alloc, b"t")?,
+        name: Name::new(alloc),
         co: false,
         params: 0,
         ty,
-        cons,
+        cons: one_constructor(alloc, ty)?,
         large: false,
     };
     let copy = entry.clone()?;

@@ -61,56 +61,92 @@ fn a_step_further_down_takes_one_of_the_depth(rt: HostRuntime) -> Result<(), Fai
 }
 
 #[test]
-fn entries_and_hypotheses_are_lists(rt: HostRuntime) -> Result<(), Fail> {
+fn constructors_are_a_list(rt: HostRuntime) -> Result<(), Fail> {
     let alloc = rt.alloc();
-    let mut cons = Cons::new(alloc);
-    cons.push(Constructor {
-        name: name(alloc)?,
+    let mut items = Cons::new(alloc);
+    items.push(Constructor {
+        name: Name::new(alloc),
         ty: Term::Ind(0),
     })?;
-    assert!(rt; cons.len() == 1 && cons.get(0).is_some());
-    let mut entries = Entries::new(alloc);
-    entries.push(Entry::Axiom {
-        name: name(alloc)?,
-        ty: Term::Sort(Sort::Prop),
-    })?;
-    assert!(rt; entries.len() == 1 && entries.get(1).is_none());
-    entries.truncate(0);
-    assert!(rt; entries.len() == 0);
-    let mut hyps = Hyps::new(alloc);
-    hyps.push(Hyp {
-        name: name(alloc)?,
-        ty: Term::Var(0),
-    })?;
-    assert!(rt; hyps.len() == 1 && hyps.get(0).is_some());
-    let mut pairs = Pairs::new(alloc);
-    pairs.push((0, 1))?;
-    assert!(rt; pairs.len() == 1 && pairs.get(0) == Some(&(0, 1)));
+    assert!(rt; items.len() == 1 && items.get(0).is_some());
     Ok(())
 }
 
 #[test]
-fn states_hold_lists(rt: HostRuntime) -> Result<(), Fail> {
+fn entries_are_a_list(rt: HostRuntime) -> Result<(), Fail> {
     let alloc = rt.alloc();
-    let mut metas = Metas::new(alloc);
-    metas.push(PlainMeta {
+    let mut items = Entries::new(alloc);
+    items.push(Entry::Axiom {
+        name: Name::new(alloc),
+        ty: Term::Sort(Sort::Prop),
+    })?;
+    assert!(rt; items.len() == 1 && items.get(1).is_none());
+    items.truncate(0);
+    assert!(rt; items.len() == 0);
+    Ok(())
+}
+
+#[test]
+fn hypotheses_are_a_list(rt: HostRuntime) -> Result<(), Fail> {
+    let alloc = rt.alloc();
+    let mut items = Hyps::new(alloc);
+    items.push(Hyp {
+        name: Name::new(alloc),
+        ty: Term::Var(0),
+    })?;
+    assert!(rt; items.len() == 1 && items.get(0).is_some());
+    Ok(())
+}
+
+#[test]
+fn constraints_are_a_list(rt: HostRuntime) -> Result<(), Fail> {
+    let alloc = rt.alloc();
+    let mut items = Pairs::new(alloc);
+    items.push((0, 1))?;
+    assert!(rt; items.len() == 1 && items.get(0) == Some(&(0, 1)));
+    Ok(())
+}
+
+#[test]
+fn metavariables_are_a_list(rt: HostRuntime) -> Result<(), Fail> {
+    let alloc = rt.alloc();
+    let mut items = Metas::new(alloc);
+    items.push(PlainMeta {
         context: Hyps::new(alloc),
         ty: Term::Sort(Sort::Prop),
         body: None,
     })?;
-    assert!(rt; metas.len() == 1 && metas.get(0).is_some());
-    let mut eqs = PlainEqs::new(alloc);
-    eqs.push(PlainEq {
+    assert!(rt; items.len() == 1 && items.get(0).is_some());
+    Ok(())
+}
+
+#[test]
+fn equations_are_a_list(rt: HostRuntime) -> Result<(), Fail> {
+    let alloc = rt.alloc();
+    let mut items = PlainEqs::new(alloc);
+    items.push(PlainEq {
         place: 0,
         term: Term::Const(0),
     })?;
-    assert!(rt; eqs.len() == 1 && eqs.get(0).is_some());
-    let mut notes = Notes::new(alloc);
-    notes.push(Note::Coercion(name(alloc)?))?;
-    assert!(rt; notes.len() == 1 && notes.get(0).is_some());
-    let mut goals = GoalMarks::new(alloc);
-    goals.push((0, true))?;
-    assert!(rt; goals.len() == 1 && goals.get(0) == Some(&(0, true)));
+    assert!(rt; items.len() == 1 && items.get(0).is_some());
+    Ok(())
+}
+
+#[test]
+fn notes_are_a_list(rt: HostRuntime) -> Result<(), Fail> {
+    let alloc = rt.alloc();
+    let mut items = Notes::new(alloc);
+    items.push(Note::Coercion(Name::new(alloc)))?;
+    assert!(rt; items.len() == 1 && items.get(0).is_some());
+    Ok(())
+}
+
+#[test]
+fn marks_of_goals_are_a_list(rt: HostRuntime) -> Result<(), Fail> {
+    let alloc = rt.alloc();
+    let mut items = GoalMarks::new(alloc);
+    items.push((0, true))?;
+    assert!(rt; items.len() == 1 && items.get(0) == Some(&(0, true)));
     Ok(())
 }
 
