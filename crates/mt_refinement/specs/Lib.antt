@@ -6,3 +6,4 @@ pub mod Matches
 pub mod Placed
 pub mod Placeholders
 pub mod Refinement
+pub mod RefinementLaws

@@ -1,5 +1,5 @@
 -- Placeholders: new open metavariables.
-use Rattle.std.specs.Prelude.{ℕ, zero, suc, List, [], ◌∷◌, ◌++◌, length, reverse, Option, Some, None}
+use Rattle.std.specs.Prelude.{ℕ, zero, suc, List, [], ◌∷◌, ◌++◌, length, reverse, Some, None}
 use Rattle.mt_term.specs.Trees.{Tree, Trees, Var, Meta, End, Item}
 use Rattle.mt_term.specs.Declarations.{Hypothesis, NoExpected}
 use Rattle.mt_unification.specs.Unification.{Metas}
