@@ -4,3 +4,6 @@ mod ApplicationExamples
 mod MatchExamples
 pub mod PlacedLaws
 pub mod RefinementAllowance
+pub mod PlacedYields
+pub mod Vectors
+pub mod RefinementGrowth

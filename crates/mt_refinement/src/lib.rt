@@ -1,9 +1,14 @@
 //! Refinement as it is written, and its laws: each function does nothing, and its clause is the law.
 #![tactic(auto)]
 
-ghost use Rattle.mt_refinement.specs.RefinementLaws.{RefinementAllowanceLaw};
+ghost use Rattle.mt_refinement.specs.RefinementLaws.{RefinementAllowanceLaw, RefinementGrowthLaw};
 
 /// What is not spent at an allowance is the same at a greater one, with as much more left; and never more is left than was given.
 pub fn going_by_allowance()
     ensures law { RefinementAllowanceLaw }
+{}
+
+/// The new store has each metavariable of the old one, with its context, its type and its body.
+pub fn store_grows()
+    ensures law { RefinementGrowthLaw }
 {}
