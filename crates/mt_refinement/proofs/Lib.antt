@@ -7,3 +7,5 @@ pub mod RefinementAllowance
 pub mod PlacedYields
 pub mod Vectors
 pub mod RefinementGrowth
+pub mod Scoped
+pub mod Mentions
