@@ -9,3 +9,6 @@ pub mod Vectors
 pub mod RefinementGrowth
 pub mod Scoped
 pub mod Mentions
+pub mod NewMetas
+pub mod MatchTypes
+pub mod RefinementSoundness

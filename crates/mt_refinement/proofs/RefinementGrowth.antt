@@ -32,7 +32,7 @@ use Rattle.mt_refinement.proofs.PlacedYields.{Finds, finds, finds_nothing, charg
 use Rattle.mt_refinement.proofs.Vectors.{vector_finds}
 
 -- a metavariable more
-appended : (ms : Metas) (x : Metavariable) → Grows ms (ms ++ x ∷ [])
+pub appended : (ms : Metas) (x : Metavariable) → Grows ms (ms ++ x ∷ [])
 appended [] x n m e = nothing e
 appended (c ∷ ms) x zero m e = grows_same (c ∷ ms) zero m e
 appended (c ∷ ms) x (suc n) m e = appended ms x n m e
