@@ -1,23 +1,22 @@
 -- The types that the parts of a match are to have: what elimination says of a return function, and the types of branch bodies.
 use Rattle.std.specs.Prelude.{◌≡◌, ◌+◌, refl, ℕ, zero, suc, List, [], ◌∷◌, Bool, true, false, Some, slice_get}
 use Rattle.std.proofs.Common.{sym, ap, ◌∙◌, subst, subst₂, arith}
-use Rattle.mt_term.specs.Trees.{Bytes, Tree, Trees, Var, Sort, Prod, App, Ind, Con, Meta, End, Item}
+use Rattle.mt_term.specs.Trees.{Bytes, Tree, Trees, Var, Sort, Prod, App, Ind, Meta, End, Item}
 use Rattle.mt_term.specs.Substitution.{up_ren, ren, ren_all, tr_all, sub, apps, join, count}
 use Rattle.mt_term.specs.Declarations.{Hypothesis, Constructor, Inductive, Environment}
 use Rattle.mt_term.specs.declared.universes.Sort.{Sort as AnySort}
-use Rattle.mt_term.specs.declared.modes.Mode.{Mode}
-use Rattle.mt_term.specs.declared.modes.Mode.TheVariants.{Equal, AtMost as Below}
+use Rattle.mt_term.specs.declared.modes.Mode.TheVariants.{Equal}
 use Rattle.mt_term.specs.Charges.{Done, ◌>>=◌}
 use Rattle.mt_term.specs.Stores.{Store, Owned}
 use Rattle.mt_term.specs.Contraction.{products}
-use Rattle.mt_term.specs.Conversion.{Conv, chain, prods, AtMost, conv}
+use Rattle.mt_term.specs.Conversion.{Conv, chain, prods, conv}
 use Rattle.mt_term.specs.Typing.{here, IsContext, IsType, Has, Instantiated, at_none, MotiveType, m_end, m_more, Allowed, Holds, c_cons, t_var, t_app, t_ind, t_sub, k_sort, k_of, k_dom}
 use Rattle.mt_term.specs.SoundEnvironment.{SoundEnvironment}
 use Rattle.mt_term.specs.SoundStore.{SoundStore}
 use Rattle.mt_term.specs.WeakHead.{whd}
 use Rattle.mt_term.specs.Comparison.{convert}
-use Rattle.mt_term.specs.Inference.{Product, Family, a_sort, a_product, checked, agreed, may_eliminate, agrees, eliminated, infer, elimination, context_types}
-use Rattle.mt_term.specs.ReductionLaws.{ReachedFrom, Compared}
+use Rattle.mt_term.specs.Inference.{Family, a_sort, a_product, checked, agreed, may_eliminate, agrees, eliminated, infer, elimination, context_types}
+use Rattle.mt_term.specs.ReductionLaws.{ReachedFrom}
 use Rattle.mt_term.proofs.Subst.{tr_apps, meta_steady, ren_sub, ren_sub_all, instantiated_tr, motive_tr}
 use Rattle.mt_term.proofs.Steps.{ClosedEnv}
 use Rattle.mt_term.proofs.Laws.{weakening}

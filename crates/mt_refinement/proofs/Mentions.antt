@@ -1,7 +1,7 @@
 -- A judgement over a store that owns its metavariables mentions these alone.
-use Rattle.std.proofs.Common.{◌≡◌, ℕ, zero, suc, List, length, true, false, Bool, sym, ◌∙◌, subst, arith}
+use Rattle.std.proofs.Common.{◌≡◌, ℕ, List, length, true, false, Bool, sym, ◌∙◌, subst, arith}
 use Rattle.mt_term.specs.Trees.{Tree, Trees, Arms, Bytes, Var, Sort, Prod, Lam, App, Const, Ind, Con, Match, Meta, End, Item, NoArm, Arm}
-use Rattle.mt_term.specs.Substitution.{up_ren, up_rens, ren, ren_all, ren_arms, sub, one, fill, beyond, under, apps, all_but, join, count}
+use Rattle.mt_term.specs.Substitution.{up_ren, up_rens, ren, ren_all, ren_arms, sub, fill, beyond, apps, all_but, join, count}
 use Rattle.mt_term.specs.declared.universes.Sort.TheVariants.{Prop}
 use Rattle.mt_term.specs.Declarations.{Inductive, Environment, declared_type}
 use Rattle.mt_term.specs.Stores.{Store, Owned, InStore, AllMetas, AllMetasIn, AllMetasArms, AllMetasOf}

@@ -6,7 +6,7 @@ use Rattle.mt_term.specs.Trees.{Tree, Trees, Var, Meta, End, Item}
 use Rattle.mt_term.specs.Substitution.{then_as, fill, beyond, under, count}
 use Rattle.mt_term.specs.Declarations.{Hypothesis, Environment}
 use Rattle.mt_term.specs.States.{Metavariable}
-use Rattle.mt_term.specs.Stores.{Declared, Store, types_onto, types_of, declared_as, store_of, AllMetas, AllMetasOf, InStore, Extends}
+use Rattle.mt_term.specs.Stores.{Declared, Store, types_onto, types_of, declared_as, store_of, AllMetasOf, InStore, Extends}
 use Rattle.mt_term.specs.StoreLaws.{Puts}
 use Rattle.mt_term.specs.Typing.{Look, IsContext, IsType, Has, Holds, t_var, t_meta}
 use Rattle.mt_term.specs.SoundEnvironment.{SoundEnvironment}

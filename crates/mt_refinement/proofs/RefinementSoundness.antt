@@ -1,23 +1,23 @@
 -- Refinement over a sound store leaves a sound store, and gives a term of the type that it gives, which is at most the expected one.
 use Rattle.std.specs.Prelude.{◌≡◌, ◌+◌, refl, ℕ, zero, suc, List, [], ◌∷◌, length, nat_eq, Bool, true, false, ◌&&◌, if◌then◌else◌, Option, Some, None, option_map, slice_get}
 use Rattle.std.specs.Str.{bytes_eq}
-use Rattle.std.proofs.Common.{sym, ap, ◌∙◌, subst, arith}
-use Rattle.mt_term.specs.Trees.{Bytes, Tree, Trees, Arms, Var, Sort, Prod, Lam, App, Const, Ind, Con, Match, Meta, End, Item, NoArm, Arm}
-use Rattle.mt_term.specs.Substitution.{sub, one, apps, join, count}
+use Rattle.std.proofs.Common.{sym, ap, subst, arith}
+use Rattle.mt_term.specs.Trees.{Bytes, Tree, Arms, Var, Sort, Prod, Lam, App, Const, Ind, Con, Match, End, Item, NoArm, Arm}
+use Rattle.mt_term.specs.Substitution.{apps, join, count}
 use Rattle.mt_term.specs.Declarations.{Hypothesis, Constructor, Environment, constructor_at}
 use Rattle.mt_term.specs.declared.modes.Mode.TheVariants.{Equal, AtMost as Below}
 use Rattle.mt_term.specs.declared.universes.Sort.{Sort as AnySort}
 use Rattle.mt_term.specs.Universes.{sort_above, sort_of_product}
-use Rattle.mt_term.specs.Charges.{Done, Charged, give}
-use Rattle.mt_term.specs.Stores.{Store, Owned, Extends, store_of}
+use Rattle.mt_term.specs.Charges.{give}
+use Rattle.mt_term.specs.Stores.{Store, Extends, store_of}
 use Rattle.mt_term.specs.Contraction.{products, ConstructorOf}
 use Rattle.mt_term.specs.Conversion.{Conv, same, back, chain, prods, AtMost, conv, on, cod}
-use Rattle.mt_term.specs.Typing.{Claim, IsContext, IsType, Has, Fitting, Body, Instantiated, at_none, MotiveType, Holds, c_cons, t_prod, t_lam, t_app, t_con, t_match, f_none, f_arm, t_sub, k_sort, k_of, k_type_stands, k_type_reduct, k_dom, k_cod}
+use Rattle.mt_term.specs.Typing.{Claim, IsContext, IsType, Has, Fitting, Body, Instantiated, at_none, Holds, c_cons, t_prod, t_lam, t_app, t_con, t_match, f_none, f_arm, t_sub, k_sort, k_of, k_type_stands, k_type_reduct, k_dom, k_cod}
 use Rattle.mt_term.specs.SoundEnvironment.{SoundEnvironment}
 use Rattle.mt_term.specs.SoundStore.{SoundStore}
 use Rattle.mt_term.specs.Spines.{bullets, at_args}
 use Rattle.mt_term.specs.WeakHead.{whd}
-use Rattle.mt_term.specs.Inference.{Product, Family, found, a_sort, a_product, eliminable, checked, in_range, type_at, constant_type, inductive_type, constructor_type, context_types, as_family, branch_context, branch_type, infer, elimination}
+use Rattle.mt_term.specs.Inference.{Product, Family, found, a_sort, eliminable, checked, in_range, constructor_type, context_types, as_family, branch_context, branch_type, infer, elimination}
 use Rattle.mt_term.specs.ReductionLaws.{ReachedFrom, itself, further}
 use Rattle.mt_term.proofs.Steps.{Reduces, done, more, ClosedEnv}
 use Rattle.mt_term.proofs.Known.{known}
@@ -34,8 +34,8 @@ use Rattle.mt_unification.proofs.UnificationSoundness.{unification_law}
 use Rattle.mt_term_parser.specs.declared.raw.RawSort.{RawSort}
 use Rattle.mt_term_parser.specs.Written as raw
 use Rattle.mt_term_parser.specs.Written.{Written, Form, Arguments, Cases, Term, Absent, Given, NoArgument, Argument, NoCase, Case}
-use Rattle.mt_resolver.specs.Resolution.{Resolution, Found, meant, or_unbound, name_all, resolved_sort}
-use Rattle.mt_refinement.specs.Placed.{Placed, ◌>>=◌, by}
+use Rattle.mt_resolver.specs.Resolution.{Found, meant, or_unbound, name_all, resolved_sort}
+use Rattle.mt_refinement.specs.Placed.{Placed, by}
 use Rattle.mt_refinement.specs.Finishing.{Typed, Refinement, names_of, coerced, fitted, finish, Sorted, as_type}
 use Rattle.mt_refinement.specs.Heads.{declared_type_of, with_declared_type, by_name, or_no_position, by_numbers, by_sort}
 use Rattle.mt_refinement.specs.Placeholders.{placeholder, by_placeholder}
@@ -382,3 +382,184 @@ module _ (E : Environment) (env : SoundEnvironment E) where
 
   by_application_sound : (m : Refinement) (rest : List Hypothesis → Option Tree → Rest) → Sound m → ((Γ : List Hypothesis) (o : Option Tree) → SoundRest Γ o (rest Γ o)) → Sound (by_application m rest)
   by_application_sound m rest h j ms Γ o z c t = then_finds (Ok ms Γ None) (Ok ms Γ o) _ _ (h ms Γ None z c tt) (λ f r. j Γ o ms f z t r)
+
+  -- ---- matches
+
+  -- a match on an inductive type, with its return function
+  record Matched (ms : Metas) (Γ : List Hypothesis) (f : Family) (R : Tree) : Type 0 where
+    pub t : Tree
+    pub is : FamilyIs E t f
+    pub ty : Over ms Γ (IsType (apps (Ind f.number) (join f.params f.indices)))
+    pub s : AnySort
+    pub motive : Motive E (store_of ms) Γ f R s
+
+  matched_moved : (ms ms' : Metas) (Γ : List Hypothesis) (f : Family) (R : Tree) → SoundStore E (store_of ms) → Extends (store_of ms) (store_of ms') → Matched ms Γ f R → Matched ms' Γ f R
+  matched_moved ms ms' Γ f R z x m =
+      let v : Motive E (store_of ms) Γ f R m.s = m.motive in
+      record { t = m.t; is = m.is; ty = moved ms ms' z x Γ (IsType (apps (Ind f.number) (join f.params f.indices))) m.ty; s = m.s; motive = record { r = v.r; M = v.M; is = v.is; return = moved ms ms' z x Γ (Has R v.M) v.return; allowed = v.allowed } }
+
+  module _ (ms : Metas) (Γ : List Hypothesis) (f : Family) (R : Tree) (z : SoundStore E (store_of ms)) (m : Matched ms Γ f R) where
+    q : FamilyIs E m.t f
+    q = m.is
+
+    context : Over ms Γ IsContext
+    context = (known E true m.ty).0
+
+    whole : q.p + products f.arity ≡ products q.ty
+    whole =
+        let facts = inductive_facts E env f.number q.name q.co f.large q.p q.ty f.constructors q.entry in
+        let a = (arity_at facts.arity q.at).1 in
+        omega (arith, a, q.enough)
+
+    -- a match whose branches fit
+    match_has : (c : Tree) (bs : Arms) → Over ms Γ (Has c (apps (Ind f.number) (join f.params f.indices))) → Over ms Γ (Fitting f.number R f.params zero bs) → Over ms Γ (Has (Match f.number R c bs) (bullets R (join f.indices (Item c End))))
+    match_has c bs hc fit =
+        let v : Motive E (store_of ms) Γ f R m.s = m.motive in
+        let hc' : Over ms Γ (Has c (apps (apps (Ind f.number) f.params) f.indices)) = subst (λ t. Over ms Γ (Has c t)) (apps_join (Ind f.number) f.params f.indices) hc in
+        has_reduced (store_of ms) (context_types Γ) (Match f.number R c bs) (App (apps R f.indices) c) (bullets R (join f.indices (Item c End))) (t_match f.indices q.entry q.enough hc' q.at v.is v.return v.allowed fit) (last_reduces E (store_of ms) R f.indices c)
+
+    module _ (k : ℕ) (c : Constructor) (g : slice_get f.constructors k ≡ Some c) (u : Tree) (i : Instantiated c.ty f.params u) where
+      constructor : ConstructorOf E f.number k c.ty
+      constructor = record { name = q.name; co = q.co; params = q.p; ty = q.ty; cons = f.constructors; large = f.large; con_name = c.name; entry = q.entry; con = g }
+
+      constructor_typed : Over ms Γ (Has (apps (Con f.number k) f.params) u)
+      unfolding q constructor
+      constructor_typed =
+          let sp : SamePrefix E (store_of ms) (count f.params) q.ty c.ty = subst (λ p. SamePrefix E (store_of ms) p q.ty c.ty) (sym q.enough) (constructor_prefix E env (store_of ms) f.number k c.ty constructor) in
+          con_has E true closed (store_of ms) f.number q.name q.co f.large q.p q.ty f.constructors q.entry k (context_types Γ) End f.indices q.at i sp at_none q.full m.ty (t_con context constructor)
+
+      module _ (xs : List Bytes) (v : Tree) (e : branch_type (count f.params) R (apps (Con f.number k) f.params) u xs ≡ Some v) where
+        result : ConResult f.number (products f.arity) f.params u
+        unfolding q constructor
+        result = constructor_result E env f.number k c.ty constructor f.params u f.arity i q.at q.enough
+
+        -- the context of the body, and its type
+        body_context : Over ms (branch_context Γ u xs) IsContext
+        body_context = branch_context_holds E true (store_of ms) Γ u xs context (k_of constructor_typed)
+
+        body_type : Over ms (branch_context Γ u xs) (IsType v)
+        body_type =
+            let w : Motive E (store_of ms) Γ f R m.s = m.motive in
+            let goal = branch_goal E (store_of ms) f.number (products f.arity) (count f.params) result refl Γ R (apps (Con f.number k) f.params) xs v e in
+            reduces_type (store_of ms) (context_types (branch_context Γ u xs)) goal.0 v
+            (goal_type E closed (store_of ms) z.owned f.number q.name q.co f.large q.p q.ty f.constructors q.entry q.p f.arity w.M goal.1 q.enough refl whole context w.return constructor_typed q.at w.is) goal.2
+
+        -- a body of that type fits
+        body_fits : (b t : Tree) → Over ms (branch_context Γ u xs) (Has b t) → AtMost E (store_of ms) t v → Over ms Γ (Body f.number q.p R (apps (Con f.number k) f.params) u xs b)
+        body_fits b t hb le =
+            let w : Motive E (store_of ms) Γ f R m.s = m.motive in
+            let goal = branch_goal E (store_of ms) f.number (products f.arity) (count f.params) result refl Γ R (apps (Con f.number k) f.params) xs v e in
+            let le' : AtMost E (store_of ms) t goal.0 = on le (conv (back (reduces_conv goal.2))) in
+            body_holds E true closed (store_of ms) z.owned f.number q.name q.co f.large q.p q.ty f.constructors q.entry q.p f.arity w.M b t goal.1 q.enough refl whole context w.return constructor_typed q.at w.is (λ c'. hb) le'
+
+  -- the bodies of a match
+  record Bodied (ms : Metas) (Γ : List Hypothesis) (f : Family) (R : Tree) (k : ℕ) (bs : Metas × Arms) : Type 0 where
+    pub sound : SoundStore E (store_of bs.0)
+    pub extends : Extends (store_of ms) (store_of bs.0)
+    pub fitting : Over bs.0 Γ (Fitting f.number R f.params k bs.1)
+
+  abbrev SoundBodies : Cases → Bodies → Type 0
+  SoundBodies arms m = (ms : Metas) (Γ : List Hypothesis) (f : Family) (R : Tree) (k : ℕ) (cs : List Constructor) → SoundStore E (store_of ms) → Matched ms Γ f R → After f.constructors k cs → name_all (count f.params) cs arms ≡ true → Finds (m ms Γ f R k cs) (Bodied ms Γ f R k)
+
+  no_body_sound : SoundBodies NoCase no_body
+  no_body_sound ms Γ f R k cs z m a e =
+      let p : FamilyIs E m.t f = m.is in
+      finds (Bodied ms Γ f R k) (ms, NoArm) (record { sound = z; extends = extends_same (store_of ms); fitting = f_none (known E true m.ty).0 p.entry (after_get (subst (After f.constructors k) (name_none (count f.params) cs e) a)) })
+
+  one_body_sound : (at : ℕ) (x : Bytes) (xs : List Bytes) (w : Written) (arms : Cases) (b : Refinement) (others : Bodies) → Sound b → SoundBodies arms others → SoundBodies (Case x xs w arms) (one_body at xs b others)
+  unfolding q matched_moved constructor
+  one_body_sound at x xs w arms b others h j ms Γ f R k [] z m a e = finds_nothing (Bodied ms Γ f R k) _ at
+  one_body_sound at x xs w arms b others h j ms Γ f R k (c ∷ cs) z m a e =
+      let con_args = at_args c.ty f.params in
+      let goal = branch_type (count f.params) R (apps (Con f.number k) f.params) in
+      then_finds (λ u. con_args ≡ Some u) Q (by at (eliminable con_args)) _ (by_finds (λ u. con_args ≡ Some u) at (eliminable con_args) (eliminable_yields con_args)) (λ u eu.
+      let i = at_args_is c.ty f.params u eu in
+      let g : slice_get f.constructors k ≡ Some c = after_get a in
+      then_finds (λ v. goal u xs ≡ Some v) Q (by at (eliminable (goal u xs))) _ (by_finds (λ v. goal u xs ≡ Some v) at (eliminable (goal u xs)) (eliminable_yields (goal u xs))) (λ v ev.
+      let Δ = branch_context Γ u xs in
+      then_finds (Ok ms Δ (Some v)) Q (b ms Δ (Some v)) _ (h ms Δ (Some v) z (body_context ms Γ f R z m k c g u i xs v ev) (body_type ms Γ f R z m k c g u i xs v ev)) (λ t r.
+      let m' = matched_moved ms t.store Γ f R z r.extends m in
+      then_finds (Bodied t.store Γ f R (suc k)) Q (others t.store Γ f R (suc k) cs) _ (j t.store Γ f R (suc k) cs r.sound m' (and_next a) (name_rest (count f.params) c cs x xs w arms e)) (λ bs d.
+      let body = body_fits t.store Γ f R r.sound m' k c g u i xs v ev t.term t.ty r.typed r.fits in
+      let p : FamilyIs E m.t f = m.is in
+      finds Q (bs.0, Arm xs t.term bs.1) (record {
+        sound = d.sound;
+        extends = extends_twice (store_of ms) (store_of t.store) (store_of bs.0) r.extends d.extends;
+        fitting = f_arm (constructor ms Γ f R z m k c g u i) i (moved t.store bs.0 r.sound d.extends Γ (Body f.number p.p R (apps (Con f.number k) f.params) u xs t.term) body) d.fitting;
+      })))))
+    where
+      Q : Metas × Arms → Type 0
+      Q bs = Bodied ms Γ f R k bs
+
+  written_return_sound : (m : Refinement) → Sound m → SoundReturn (written_return m)
+  written_return_sound m h ms Γ o f z c t = then_finds (Ok ms Γ None) (λ r. Later ms r.0) _ _ (h ms Γ None z c tt) (λ u r. finds (λ r. Later ms r.0) (u.store, u.term) (record { sound = r.sound; extends = r.extends }))
+
+  expected_return_sound : (at : ℕ) → SoundReturn (expected_return at)
+  expected_return_sound at ms Γ None f z c t = finds_nothing (λ r. Later ms r.0) _ at
+  expected_return_sound at ms Γ (Some U) f z c t = finds (λ r. Later ms r.0) _ (record { sound = z; extends = extends_same (store_of ms) })
+
+  by_match_sound : (at : ℕ) (m : Refinement) (return : Return) (arms : Cases) (bodies : Bodies) → Sound m → SoundReturn return → SoundBodies arms bodies → Sound (by_match E at m return arms bodies)
+  by_match_sound at m return arms bodies h j l ms Γ o z c t =
+      then_finds (Ok ms Γ None) (Ok ms Γ o) _ _ (h ms Γ None z c tt) (λ d r.
+      then_finds (ReachedFrom E (store_of d.store) d.ty) (Ok ms Γ o) (head at d.store d.ty) _ (head_finds at d.store d.ty) (λ u q.
+      then_finds (λ f. as_family E.entries u ≡ Some f) (Ok ms Γ o) (by at (eliminable (as_family E.entries u))) _ (by_finds (λ f. as_family E.entries u ≡ Some f) at (eliminable (as_family E.entries u)) (eliminable_yields (as_family E.entries u))) (λ f e.
+      let i = family_is E u f e in
+      let hd : Over d.store Γ (Has d.term (apps (Ind f.number) (join f.params f.indices))) = subst (λ v. Over d.store Γ (Has d.term v)) i.is (has_reached (store_of d.store) (context_types Γ) d.term d.ty u r.typed q) in
+      then_finds (λ y. name_all (count f.params) f.constructors arms ≡ true) (Ok ms Γ o) (by at (checked (name_all (count f.params) f.constructors arms))) _
+      (by_finds (λ y. name_all (count f.params) f.constructors arms ≡ true) at (checked (name_all (count f.params) f.constructors arms)) (checked_yields (name_all (count f.params) f.constructors arms))) (λ y n.
+      then_finds (λ p. Later d.store p.0) (Ok ms Γ o) (return d.store Γ o f) _ (j d.store Γ o f r.sound (known E true hd).0 (type_moved ms d.store z r.extends Γ o t)) (λ p k.
+      let hp : Over p.0 Γ (Has d.term (apps (Ind f.number) (join f.params f.indices))) = moved d.store p.0 r.sound k.extends Γ (Has d.term (apps (Ind f.number) (join f.params f.indices))) hd in
+      then_finds (Motive E (store_of p.0) Γ f p.1) (Ok ms Γ o) (by at (elimination E (store_of p.0) Γ f p.1)) _
+      (by_finds (Motive E (store_of p.0) Γ f p.1) at (elimination E (store_of p.0) Γ f p.1) (elimination_yields E env (store_of p.0) k.sound Γ f p.1 u i (known E true hp).0 (k_of hp))) (λ s v.
+      let w : Matched p.0 Γ f p.1 = record { t = u; is = i; ty = k_of hp; s = s; motive = v } in
+      then_finds (Bodied p.0 Γ f p.1 zero) (Ok ms Γ o) (bodies p.0 Γ f p.1 zero f.constructors) _ (l p.0 Γ f p.1 zero f.constructors k.sound w from_first n) (λ bs b.
+      let hb : Over bs.0 Γ (Has d.term (apps (Ind f.number) (join f.params f.indices))) = moved p.0 bs.0 k.sound b.extends Γ (Has d.term (apps (Ind f.number) (join f.params f.indices))) hp in
+      let x : Extends (store_of ms) (store_of bs.0) = extends_twice (store_of ms) (store_of d.store) (store_of bs.0) r.extends (extends_twice (store_of d.store) (store_of p.0) (store_of bs.0) k.extends b.extends) in
+      ends at ms Γ o (record { store = bs.0; term = Match f.number p.1 d.term bs.1; ty = bullets p.1 (join f.indices (Item d.term End)) }) z t
+      (record { sound = b.sound; extends = x; typed = match_has bs.0 Γ f p.1 b.sound (matched_moved p.0 bs.0 Γ f p.1 k.sound b.extends w) d.term bs.1 hb b.fitting; fits = tt }))))))))
+
+  -- ---- all raw terms
+
+  either : (Γ : List Hypothesis) (o : Option Tree) (b : Bool) (m m' : Rest) → SoundRest Γ o m → SoundRest Γ o m' → SoundRest Γ o (if b then m else m')
+  either Γ o true m m' h j = h
+  either Γ o false m m' h j = j
+
+  mutual
+    refined_sound : (w : Written) → Sound (refined E w)
+    refined_sound (Term at f) ms Γ o z c t = charge_finds (Ok ms Γ o) _ (form_sound at f ms Γ o z c t)
+
+    form_sound : (at : ℕ) (f : Form) → Sound (refined_form E at f)
+    form_sound at (raw.Name x) = by_name_sound at x
+    form_sound at (raw.Con e k) = by_numbers_sound at e k
+    form_sound at raw.Hole = by_placeholder_sound at
+    form_sound at raw.Vector = λ ms Γ o z c t. finds_nothing (Ok ms Γ o) _ at
+    form_sound at (raw.Sort s) = by_sort_sound at s
+    form_sound at (raw.Lam x Absent b) = by_bare_abstraction_sound at x _ (refined_sound b)
+    form_sound at (raw.Lam x (Given A) b) = by_abstraction_sound at x (place_of A) _ _ (refined_sound A) (refined_sound b)
+    form_sound at (raw.Prod x A B) = by_product_sound at x (place_of A) _ (place_of B) _ (refined_sound A) (refined_sound B)
+    form_sound at (raw.App f args) = by_application_sound _ _ (refined_sound f) (arguments_sound at args)
+    form_sound at (raw.Match c Absent arms) = by_match_sound at _ _ arms _ (refined_sound c) (expected_return_sound at) (bodies_sound at arms)
+    form_sound at (raw.Match c (Given R) arms) = by_match_sound at _ _ arms _ (refined_sound c) (written_return_sound _ (refined_sound R)) (bodies_sound at arms)
+    form_sound at (raw.Cast m T) = by_cast_sound at _ (place_of T) _ (refined_sound m) (refined_sound T)
+
+    arguments_sound : (at : ℕ) (args : Arguments) (Γ : List Hypothesis) (o : Option Tree) → SoundRest Γ o (refined_arguments E at args Γ o)
+    arguments_sound at NoArgument Γ o = λ ms f z t r. ends at ms Γ o f z t r
+    arguments_sound at (Argument a args) Γ o = either Γ o (is_vector a) _ _ (by_vector_sound Γ o (place_of a) _ (arguments_sound at args Γ o)) (by_argument_sound Γ o (place_of a) _ _ (refined_sound a) (arguments_sound at args Γ o))
+
+    bodies_sound : (at : ℕ) (arms : Cases) → SoundBodies arms (refined_bodies E at arms)
+    bodies_sound at NoCase = no_body_sound
+    bodies_sound at (Case x xs b arms) = one_body_sound at x xs b arms _ _ (refined_sound b) (bodies_sound at arms)
+
+pub refinement_law : RefinementLaw
+unfolding refine
+refinement_law E env ms Γ w o t n l z c h e =
+    let r : Ok E env ms Γ o t = (refined_sound E env w ms Γ o z c (type_in o h)).yields n (Found t) l e in
+    (r.sound, r.extends, r.typed, at_most o r.fits)
+  where
+    type_in : (o : Option Tree) → ((U : Tree) → o ≡ Some U → Holds E true (store_of ms) (context_types Γ) (IsType U)) → TypeIn E env ms Γ o
+    type_in None h = tt
+    type_in (Some U) h = h U refl
+
+    at_most : (o : Option Tree) → Fits E env t.store o t.ty → (U : Tree) → o ≡ Some U → AtMost E (store_of t.store) t.ty U
+    at_most None f U e = nothing e
+    at_most (Some V) f U e = subst (AtMost E (store_of t.store) t.ty) (some_is e) f

@@ -1,10 +1,10 @@
 -- A judgement speaks of its context's variables alone.
-use Rattle.std.proofs.Common.{◌≡◌, ℕ, zero, suc, List, [], ◌∷◌, length, true, false, refl, sym, ap, ap₂, ◌∙◌, subst, ◌≤◌, ◌<◌, arith, Bool}
-use Rattle.mt_term.proofs.Subst.{sub_id, Fills, no_more, one_more, fills_of}
+use Rattle.std.proofs.Common.{◌≡◌, ℕ, zero, suc, List, [], ◌∷◌, length, true, false, refl, ap, ap₂, subst, ◌<◌, arith, Bool}
+use Rattle.mt_term.proofs.Subst.{Fills, no_more, one_more, fills_of}
 use Rattle.mt_term.proofs.Steps.{ClosedEnv, Fixed}
 use Rattle.mt_term.proofs.Exchange.{look_ty, place_of}
 use Rattle.mt_term.specs.Trees.{Tree, Trees, Arms, Bytes, Var, Sort, Prod, Lam, App, Const, Ind, Con, Match, Meta, End, Item, NoArm, Arm}
-use Rattle.mt_term.specs.Substitution.{up_ren, up_rens, ren, ren_all, ren_arms, then_as, up, ups, tr, tr_all, tr_arms, sub, one, fill, beyond, under, apps, all_but, join, count}
+use Rattle.mt_term.specs.Substitution.{up_ren, up_rens, ren, ren_all, ren_arms, then_as, up, ups, tr_all, tr_arms, sub, one, fill, beyond, under, apps, all_but, join, count}
 use Rattle.mt_term.specs.Declarations.{Inductive, Environment, declared_type}
 use Rattle.mt_term.specs.Stores.{Store}
 use Rattle.mt_term.specs.Contraction.{ArmAt, arm_here, arm_later, Contracts, beta, delta, assigned, iota, unfold_rec, unfold_co, in_dom, in_cod, in_type, in_body, in_fun, in_arg, in_return, in_matched, in_arms, in_terms, ContractsIn, in_first, in_rest, ContractsArms, in_arm, in_later}
