@@ -26,7 +26,7 @@ abbrev E : Environment
 E = numbers_and (
     Inductive (codes "unit") false 0 (type 0) (record { name = codes "tt"; ty = unit } ∷ []) true
     ∷ Inductive (codes "prod") false 2 (Prod (codes "A") (type 0) (Prod (codes "B") (type 0) (type 0)))
-        (record { name = codes "pair"; ty = Prod (codes "A") (type 0) (Prod (codes "B") (type 0) (arrow (Var 1) (arrow (Var 1) (pair_of (Var 3) (Var 2))))) } ∷ []) true
+    (record { name = codes "pair"; ty = Prod (codes "A") (type 0) (Prod (codes "B") (type 0) (arrow (Var 1) (arrow (Var 1) (pair_of (Var 3) (Var 2))))) } ∷ []) true
     ∷ Axiom a prop
     ∷ Axiom (codes "f") (arrow nat (arrow nat nat))
     ∷ Axiom (codes "q") (Prod n nat (equal nat (Var 0) (next (Var 0))))

@@ -13,7 +13,7 @@ use Rattle.mt_term_parser.specs.Written as raw
 use Rattle.mt_term_parser.specs.Written.{Written, Domain, Cases, Term, Absent, Given, NoCase, Case}
 use Rattle.mt_resolver.specs.Resolution.{Found, Faults}
 use Rattle.mt_refinement.specs.Refinement.{refine}
-use Rattle.mt_refinement.proofs.Samples.{n, x, y, p, unnamed, prop, arrow, nat, nought, next, equal, hypothesis, numbers_and, name, on_one, on_two}
+use Rattle.mt_refinement.proofs.Samples.{n, x, y, p, unnamed, prop, type, arrow, nat, nought, next, equal, hypothesis, numbers_and, name, on_one, on_two}
 
 -- after the numbers: `axiom plus : nat → nat → nat.`, `inductive or2 : Prop ≝ l : or2 | r : or2.`, `inductive false : Prop ≝ .`
 abbrev E : Environment
@@ -102,6 +102,12 @@ body_of_plus : refine E [] (hypothesis (codes "m") nat ∷ number) (Term 0 (raw.
     ≡ Done (Found (record { store = []; term = Match 0 (Lam unnamed nat nat) (Var 1) (Arm [] (Var 0) (Arm (p ∷ []) (next (App (App (Const 2) (Var 0)) (Var 1))) NoArm)); ty = nat })) 0
 unfolding refine unify unified infer elimination convert compared whd look fixed is_alike
 body_of_plus = refl
+
+-- against a type that is a hypothesis: `match n with [ O ⇒ y | S p ⇒ y ]` for y of the type x; as with numbers, and each y is a hypothesis that stands further out in its branch
+over_a_variable : refine E [] (hypothesis y (Var 1) ∷ hypothesis n nat ∷ hypothesis x (type 0) ∷ []) (of_name n (Case (codes "O") [] (name 19 y) (Case (codes "S") (p ∷ []) (name 27 y) NoCase))) (Some (Var 2)) 11
+    ≡ Done (Found (record { store = []; term = Match 0 (Lam unnamed nat (Var 3)) (Var 1) (Arm [] (Var 0) (Arm (p ∷ []) (Var 1) NoArm)); ty = Var 2 })) 0
+unfolding refine unify unified infer elimination convert compared whd look fixed is_alike
+over_a_variable = refl
 
 -- ---- sorts
 

@@ -56,7 +56,7 @@ abbrev pub numbers : List Declaration
 numbers =
     Inductive (codes "nat") false 0 (type 0) (record { name = codes "O"; ty = nat } ∷ record { name = codes "S"; ty = arrow nat nat } ∷ []) true
     ∷ Inductive (codes "eq") false 2 (Prod (codes "A") (type 0) (Prod x (Var 0) (arrow (Var 1) prop)))
-        (record { name = codes "refl"; ty = Prod (codes "A") (type 0) (Prod x (Var 0) (equal (Var 1) (Var 0) (Var 0))) } ∷ []) true
+    (record { name = codes "refl"; ty = Prod (codes "A") (type 0) (Prod x (Var 0) (equal (Var 1) (Var 0) (Var 0))) } ∷ []) true
     ∷ []
 
 -- these, and more entries
