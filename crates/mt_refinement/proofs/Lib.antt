@@ -11,4 +11,9 @@ pub mod Scoped
 pub mod Mentions
 pub mod NewMetas
 pub mod MatchTypes
+pub mod SoundEnds
+pub mod HeadSoundness
+pub mod BinderSoundness
+pub mod ApplicationSoundness
+pub mod MatchSoundness
 pub mod RefinementSoundness
