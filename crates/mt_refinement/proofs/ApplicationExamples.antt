@@ -1,6 +1,6 @@
 -- What refinement gives for applications, and for `…` among their arguments, and what it costs. Each raw term has one charge; further ones are named.
 use Rattle.std.specs.Prelude.{◌≡◌, refl, [], ◌∷◌, true, false, None, Some, codes}
-use Rattle.mt_term.specs.Trees.{Tree, Var, Prod, Lam, App, Ind, Con, Const}
+use Rattle.mt_term.specs.Trees.{Tree, Var, Prod, Lam, App, Ind, Con, Const, Match, NoArm, Arm}
 use Rattle.mt_term.specs.Declarations.{Axiom, Definition, Inductive, Environment, Mismatch, NotAFunction}
 use Rattle.mt_term.specs.Charges.{Done, Spent}
 use Rattle.mt_term.specs.Knot.{fixed}
@@ -130,3 +130,25 @@ a_circle_by_type : refine E' [] [] (Term 15 (raw.App (name 15 (codes "s")) (on_t
     ≡ Done (Faults (Mismatch [] (equal nat (meta 2) (meta 2)) (equal nat (meta 0) (App (Const 3) (meta 1))) []) 22) 0
 unfolding refine unify unified infer whd look step fixed is_alike
 a_circle_by_type = refl
+
+-- `inductive group : Type[1] ≝ mk : Type[0] → group.`, `definition carrier : group → Type[0] ≝ λg:group.match g return λg:group.Type[0] with [ mk c ⇒ c ].`, `axiom Z : Type[0].`, `axiom z : Z.`, `axiom op : ∀g:group.carrier g → carrier g.`
+abbrev carrier : Tree → Tree
+carrier t = App (Const 1) t
+
+abbrev E'' : Environment
+E'' = record {
+  entries =
+      Inductive (codes "group") false 0 (type 1) (record { name = codes "mk"; ty = arrow (type 0) (Ind 0) } ∷ []) true
+      ∷ Definition (codes "carrier") (arrow (Ind 0) (type 0)) (Lam (codes "g") (Ind 0) (Match 0 (Lam (codes "g") (Ind 0) (type 0)) (Var 0) (Arm (codes "c" ∷ []) (Var 0) NoArm)))
+      ∷ Axiom (codes "Z") (type 0)
+      ∷ Axiom (codes "z") (Const 2)
+      ∷ Axiom (codes "op") (Prod (codes "g") (Ind 0) (arrow (carrier (Var 0)) (carrier (Var 1))))
+      ∷ [];
+  names = [];
+  below = [];
+}
+
+-- `definition w : Z ≝ op ? z.`: four raw terms; the end of `z`, where the carrier takes two steps and each begins anew (five), and two steps for its weak head
+no_hint : refine E'' [] [] (Term 21 (raw.App (name 21 (codes "op")) (on_two (blank 24) (name 26 (codes "z"))))) (Some (Const 2)) 11 ≡ Done (Faults (Mismatch [] (Const 2) (carrier (meta 0)) []) 26) 0
+unfolding refine unify unified infer whd look step fixed is_alike
+no_hint = refl

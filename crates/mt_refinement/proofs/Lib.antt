@@ -17,3 +17,6 @@ pub mod BinderSoundness
 pub mod ApplicationSoundness
 pub mod MatchSoundness
 pub mod RefinementSoundness
+pub mod PlacedFaults
+pub mod AllPlaces
+pub mod RefinementPlaces

@@ -5,5 +5,6 @@ pub mod Heads
 pub mod Matches
 pub mod Placed
 pub mod Placeholders
+pub mod Places
 pub mod Refinement
 pub mod RefinementLaws
