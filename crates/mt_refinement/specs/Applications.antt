@@ -30,7 +30,7 @@ by_argument E Γ place argument rest f = do
   a ← argument f.store Γ (Some p.dom)
   rest (on_argument f p a)
 
--- a placeholder for the argument of a function of this product, for one charge, and then the rest; else what there is where it is none
+-- a placeholder as the next argument, for one charge, and then the rest, where the function's type is a product; else `none`
 abbrev pub on_product : List Hypothesis → Placed Typed → Rest → Typed → Option Product → Placed Typed
 on_product Γ none rest f (Some p) = charge (rest (on_argument f p (placeholder f.store Γ p.dom)))
 on_product Γ none rest f None = none
