@@ -10,6 +10,8 @@ mod printer;
 #[cfg(test)]
 mod reading_laws;
 #[cfg(test)]
+mod refinement_laws;
+#[cfg(test)]
 mod resolver;
 #[cfg(test)]
 mod term_parser;
