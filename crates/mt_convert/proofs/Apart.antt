@@ -3,11 +3,11 @@ use Rattle.std.proofs.Common.{ℕ, ◌≡◌, false, refl}
 use Rattle.mt_term.specs.Trees.{Bytes, Tree, Sort, Prod, Lam}
 use Rattle.mt_term.specs.declared.universes.Sort.{Sort as AnySort}
 use Rattle.mt_term.specs.Declarations.{Environment}
-use Rattle.mt_term.specs.Charges.{Done}
+use Rattle.mt_rules.specs.Charges.{Done}
 use Rattle.mt_term.specs.Stores.{Store}
-use Rattle.mt_term.specs.Comparison.{spines}
-use Rattle.mt_term.proofs.ComparisonRules.{spines_rules}
-use Rattle.mt_term.proofs.ComparisonApart.{apart_rules}
+use Rattle.mt_rules.specs.Comparison.{spines}
+use Rattle.mt_rules_laws.proofs.ComparisonRules.{spines_rules}
+use Rattle.mt_rules_laws.proofs.ComparisonApart.{apart_rules}
 
 module _ (E : Environment) (S : Store) (u : Tree) (n : ℕ) where
   pub sort_is_no_spine : (s : AnySort) → spines E S (Sort s) u n ≡ Done false n

@@ -1,4 +1,4 @@
--- Two matches whose return functions are convertible, in a pool that has grown since.
+-- Two matches whose motives are convertible, in a pool that has grown since.
 use Rattle.std.proofs.Common.{Bool, true, ◌&&◌, nat_eq, ℕ, ◌<◌, ◌≡◌, List, length, refl, sym, ◌∙◌, subst}
 use Rattle.std.proofs.lemmas.Bool.{eq-eqb}
 use Rattle.mt_env.specs.Environments.{HeldEnvironment}
@@ -10,11 +10,11 @@ use Rattle.mt_pool.proofs.Region.{arms-kept, tree-kept}
 use Rattle.mt_store.specs.declared.metavariables.HeldMeta.{HeldMeta}
 use Rattle.mt_store.specs.Held.{store_in, StoreBelow}
 use Rattle.mt_store.proofs.HeldLaws.{store-kept}
-use Rattle.mt_term.specs.Charges.{Done}
-use Rattle.mt_term.specs.Comparison.{convert, same_shapes, spines}
+use Rattle.mt_rules.specs.Charges.{Done}
+use Rattle.mt_rules.specs.Comparison.{convert, same_shapes, spines}
 use Rattle.mt_term.specs.Trees.{Bytes, Tree, Match}
 use Rattle.mt_term.specs.declared.modes.Mode.TheVariants.{Equal}
-use Rattle.mt_term.proofs.ComparisonRules.{matches, spines-match-yes}
+use Rattle.mt_rules_laws.proofs.ComparisonRules.{matches, spines-match-yes}
 
 -- one type, and branches of one shape
 pub fits : (e d : ℕ) (b : Bool) → e ≡ d → b ≡ true → (nat_eq e d && b) ≡ true

@@ -2,7 +2,7 @@
 use crate::comparison::convert;
 use mt_layers::{Convert, Whd, Work};
 use mt_pool::TermId;
-use mt_term::{MOST_DEEP, Mode, Stop};
+use mt_term::{MAX_DEPTH, Mode, Stop};
 use mt_text::{Ledger, Steps};
 use std::alloc::Global;
 
@@ -30,6 +30,6 @@ impl<W: Whd> Convert for Comparer<W> {
         u: TermId,
         steps: &mut Steps<L>,
     ) -> Result<bool, Stop> {
-        convert(&self.whd, alloc, w, mode, t, u, MOST_DEEP, steps)
+        convert(&self.whd, alloc, w, mode, t, u, MAX_DEPTH, steps)
     }
 }

@@ -1,7 +1,7 @@
 // The order of sorts in an environment.
 ghost use Rattle.std.specs.Prelude.{◌≡◌, IsTrue, List};
 ghost use Rattle.mt_layers.specs.Environments.{environment_in};
-ghost use Rattle.mt_term.specs.Comparison.{sorts_fit};
+ghost use Rattle.mt_rules.specs.Comparison.{sorts_fit};
 ghost use Rattle.mt_term.specs.Trees.{Tree};
 ghost use Rattle.mt_term.specs.UniverseOrder.{at_most};
 

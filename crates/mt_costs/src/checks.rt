@@ -1,6 +1,8 @@
 // Checks of terms against types, with their costs.
 //
-// Most compare two terms t and u, by a proof by `refl` that they are equal: the type `eq A t t` is inferred and compared with `eq A t u`. That takes a charge for the whole, for A and for t, and then what the comparison of t with u takes.
+// Most compare two terms t and u, by a proof by `refl` that they are equal: the type `eq A t t` is
+// inferred and compared with `eq A t u`. That takes a charge for the whole, for A and for t, and
+// then what the comparison of t with u takes.
 use crate::rows::{Asked, Row};
 
 /// The rows of the check.
@@ -14,8 +16,8 @@ pub static CHECKS: [Row; 48] = [
         yes: true,
         cost: 3,
     },
-    // S O : nat
-    // By hand: the type (1); the application, its two parts and the comparison of the argument's type (4); the comparison (1).
+    // S O : nat By hand: the type (1); the application, its two parts and the comparison of the
+    // argument's type (4); the comparison (1).
     Row {
         asked: Asked::Checked,
         t: "Os",
@@ -23,8 +25,8 @@ pub static CHECKS: [Row; 48] = [
         yes: true,
         cost: 6,
     },
-    // λ:nat.x : nat→nat
-    // By hand: the product and its parts (3); the abstraction, its type and its body (3); the comparison (1).
+    // λ:nat.x : nat→nat By hand: the product and its parts (3); the abstraction, its type and its
+    // body (3); the comparison (1).
     Row {
         asked: Asked::Checked,
         t: "Nxl",
@@ -86,8 +88,8 @@ pub static CHECKS: [Row; 48] = [
         yes: true,
         cost: 5,
     },
-    // plus one one : nat
-    // By hand: the type (1); two applications (2), `plus` and two times `one` (3), and the comparison of the type of each argument (2); the comparison (1).
+    // plus one one : nat By hand: the type (1); two applications (2), `plus` and two times `one`
+    // (3), and the comparison of the type of each argument (2); the comparison (1).
     Row {
         asked: Asked::Checked,
         t: "II+",
@@ -128,8 +130,10 @@ pub static CHECKS: [Row; 48] = [
         yes: true,
         cost: 5,
     },
-    // refl nat O : eq nat O O
-    // By hand: the type takes 10, three applications (3), `eq`, `nat` and two times `O` (4), and the comparison of the type of each argument (3); the term takes 7, two applications (2), `refl`, `nat` and `O` (3), and two comparisons (2); the comparison of two alike types (1).
+    // refl nat O : eq nat O O By hand: the type takes 10, three applications (3), `eq`, `nat` and
+    // two times `O` (4), and the comparison of the type of each argument (3); the term takes 7, two
+    // applications (2), `refl`, `nat` and `O` (3), and two comparisons (2); the comparison of two
+    // alike types (1).
     Row {
         asked: Asked::Checked,
         t: "RN.O.",
@@ -137,8 +141,10 @@ pub static CHECKS: [Row; 48] = [
         yes: true,
         cost: 18,
     },
-    // refl nat one : eq nat one (S O)
-    // By hand: the type takes 13, three applications (3), `eq` and `nat` and `one` (3), `S O` (4), and the comparison of the type of each argument (3); the term takes 7, two applications (2), `refl` and `nat` and `one` (3), and two comparisons (2); the comparison of the types takes 6, as said above, where `one` and `S O` take 3.
+    // refl nat one : eq nat one (S O) By hand: the type takes 13, three applications (3), `eq` and
+    // `nat` and `one` (3), `S O` (4), and the comparison of the type of each argument (3); the term
+    // takes 7, two applications (2), `refl` and `nat` and `one` (3), and two comparisons (2); the
+    // comparison of the types takes 6, as said above, where `one` and `S O` take 3.
     Row {
         asked: Asked::Checked,
         t: "RN.I.",
@@ -330,7 +336,8 @@ pub static CHECKS: [Row; 48] = [
         yes: true,
         cost: 73,
     },
-    // refl (list nat) (cons nat one (nil nat)) : eq (list nat) (cons nat one (nil nat)) (cons nat (S O) (nil nat))
+    // refl (list nat) (cons nat one (nil nat)) : eq (list nat) (cons nat one (nil nat)) (cons nat
+    // (S O) (nil nat))
     Row {
         asked: Asked::Checked,
         t: "RKN..CN.I.LN...",
@@ -362,8 +369,8 @@ pub static CHECKS: [Row; 48] = [
         yes: true,
         cost: 36,
     },
-    // λ:Prop.x : Prop→Type[0]
-    // By hand: the product and its parts (3); the abstraction, its type and its body (3); the comparison, and those of domains and codomains (3).
+    // λ:Prop.x : Prop→Type[0] By hand: the product and its parts (3); the abstraction, its type and
+    // its body (3); the comparison, and those of domains and codomains (3).
     Row {
         asked: Asked::Checked,
         t: "Bxl",
@@ -380,8 +387,10 @@ pub static CHECKS: [Row; 48] = [
         yes: false,
         cost: 9,
     },
-    // λ:nat→Prop.x : (nat→Prop)→nat→Type[0]
-    // By hand: the type takes 7, the product (1) and two products with their parts (6); the term takes 5, the abstraction (1), the product and its parts (3) and the body (1); the comparison takes 5, the whole (1), alike domains (1), and the codomains (1) with their parts (2).
+    // λ:nat→Prop.x : (nat→Prop)→nat→Type[0] By hand: the type takes 7, the product (1) and two
+    // products with their parts (6); the term takes 5, the abstraction (1), the product and its
+    // parts (3) and the body (1); the comparison takes 5, the whole (1), alike domains (1), and the
+    // codomains (1) with their parts (2).
     Row {
         asked: Asked::Checked,
         t: "NB>xl",

@@ -22,8 +22,8 @@ pub static COMPARISONS: [Row; 34] = [
         yes: true,
         cost: 5,
     },
-    // S (plus O O) = S O
-    // By hand: the comparison (1); no side has a step, and the heads are the same; the arguments are as in the row before (5).
+    // S (plus O O) = S O By hand: the comparison (1); no side has a step, and the heads are the
+    // same; the arguments are as in the row before (5).
     Row {
         asked: Asked::Compared(Mode::Equal),
         t: "OO+s",
@@ -39,8 +39,9 @@ pub static COMPARISONS: [Row; 34] = [
         yes: true,
         cost: 3,
     },
-    // plus one one = S one
-    // By hand: the comparison (1); the left becomes `S (plus O one)` (5), and the right has no step; the arguments: the comparison (1), `plus O one` becomes `S O` (5) and `one` too (1), and the comparison of `O` with `O` (1).
+    // plus one one = S one By hand: the comparison (1); the left becomes `S (plus O one)` (5), and
+    // the right has no step; the arguments: the comparison (1), `plus O one` becomes `S O` (5) and
+    // `one` too (1), and the comparison of `O` with `O` (1).
     Row {
         asked: Asked::Compared(Mode::Equal),
         t: "II+",
@@ -152,8 +153,8 @@ pub static COMPARISONS: [Row; 34] = [
         yes: true,
         cost: 4,
     },
-    // pred x = odd_pred x
-    // By hand: the comparison (1); the return functions and the matched terms (2); the bodies, `O` with `plus O O` (5) and two alike (1).
+    // pred x = odd_pred x By hand: the comparison (1); the motives and the matched terms (2); the
+    // bodies, `O` with `plus O O` (5) and two alike (1).
     Row {
         asked: Asked::Compared(Mode::Equal),
         t: "xp",
@@ -261,8 +262,8 @@ pub static COMPARISONS: [Row; 34] = [
         yes: true,
         cost: 3,
     },
-    // ?3[one] = ?3[S O]
-    // By hand: the comparison (1); the terms: the comparison (1), the unfolding (1), and the arguments, which are alike (1).
+    // ?3[one] = ?3[S O] By hand: the comparison (1); the terms: the comparison (1), the unfolding
+    // (1), and the arguments, which are alike (1).
     Row {
         asked: Asked::Compared(Mode::Equal),
         t: "Iu",

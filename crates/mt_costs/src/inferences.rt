@@ -1,4 +1,5 @@
-// Inferences of types, with their costs. Where no type is inferred, the answer is no whatever the second term is.
+// Inferences of types, with their costs. Where no type is inferred, the answer is no whatever the
+// second term is.
 use crate::rows::{Asked, Form, Row};
 
 /// The rows of inference.
@@ -113,8 +114,8 @@ pub static INFERENCES: [Row; 28] = [
         yes: true,
         cost: 4,
     },
-    // eq nat O O : Prop
-    // By hand: three applications (3), `eq` (1), three arguments (3), and the comparison of the type of each (3).
+    // eq nat O O : Prop By hand: three applications (3), `eq` (1), three arguments (3), and the
+    // comparison of the type of each (3).
     Row {
         asked: Asked::Has(Form::Type),
         t: "EN.O.O.",
@@ -130,9 +131,10 @@ pub static INFERENCES: [Row; 28] = [
         yes: true,
         cost: 6,
     },
-    // refl ((λ:Type[0].x) nat) O : eq ((λ:Type[0].x) nat) O O
-    // By hand: `(λ:Type[0].x) nat` takes 6, its application and parts (5) and a comparison (1); `refl` on it 3 more, with a comparison;
-    // the outer application and `O` (2), and the comparison (1) of `nat` with `(λ:Type[0].x) nat`, which has a step (1).
+    // refl ((λ:Type[0].x) nat) O : eq ((λ:Type[0].x) nat) O O By hand: `(λ:Type[0].x) nat` takes 6,
+    // its application and parts (5) and a comparison (1); `refl` on it 3 more, with a comparison;
+    // the outer application and `O` (2), and the comparison (1) of `nat` with `(λ:Type[0].x) nat`,
+    // which has a step (1).
     Row {
         asked: Asked::Has(Form::Type),
         t: "R0xlN..O.",
@@ -140,9 +142,9 @@ pub static INFERENCES: [Row; 28] = [
         yes: true,
         cost: 13,
     },
-    // pred one : nat
-    // By hand: the match and the matched term (2); the return function (3), and the comparison of its domain with `nat` (1);
-    // of each branch its body and the comparison of its type (2 + 2).
+    // pred one : nat By hand: the match and the matched term (2); the motive (3), and the
+    // comparison of its domain with `nat` (1); of each branch its body and the comparison of its
+    // type (2 + 2).
     Row {
         asked: Asked::Has(Form::Type),
         t: "Ip",
@@ -175,8 +177,8 @@ pub static INFERENCES: [Row; 28] = [
         yes: false,
         cost: 2,
     },
-    // S on nat has no type: not its domain
-    // By hand: the application and its parts (3), and the comparison of the argument's type (1), which says no.
+    // S on nat has no type: not its domain By hand: the application and its parts (3), and the
+    // comparison of the argument's type (1), which says no.
     Row {
         asked: Asked::Has(Form::Type),
         t: "SN.",

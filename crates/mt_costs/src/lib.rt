@@ -1,6 +1,8 @@
-//! Worked reductions, comparisons, inferences and checks with their costs, on the layers and on the kernel.
+//! Worked reductions, comparisons, inferences and checks with their costs, on the layers and on the
+//! kernel.
 //!
-//! One test runs all rows. Its contracts keep the environment in its pool and count charges; what the rows say no contract says, so there is no edit that the check must refuse.
+//! One test runs all rows. Its contracts keep the environment in its pool and count charges; what
+//! the rows say no contract says, so there is no edit that the check must refuse.
 #![tactic(auto)]
 
 #[cfg(test)]

@@ -64,8 +64,8 @@ pub static REDUCTIONS: [Row; 45] = [
         yes: true,
         cost: 7,
     },
-    // plus O O has the weak head O
-    // By hand: `O` has no step and is a whole constructor, so `plus` unfolds (1); two abstractions on arguments (2); the match on `O` takes its branch (1).
+    // plus O O has the weak head O By hand: `O` has no step and is a whole constructor, so `plus`
+    // unfolds (1); two abstractions on arguments (2); the match on `O` takes its branch (1).
     Row {
         asked: Asked::Has(Form::WeakHead),
         t: "OO+",
@@ -248,8 +248,9 @@ pub static REDUCTIONS: [Row; 45] = [
         yes: true,
         cost: 4,
     },
-    // plus one one has the normal form S (S O)
-    // By hand: the weak head `S (plus O one)` takes 1 for `one` and 4 for `plus`; `S` has no step; `plus O one` takes 4 to `one` and 1 to `S O`, whose parts have none: 10.
+    // plus one one has the normal form S (S O) By hand: the weak head `S (plus O one)` takes 1 for
+    // `one` and 4 for `plus`; `S` has no step; `plus O one` takes 4 to `one` and 1 to `S O`, whose
+    // parts have none: 10.
     Row {
         asked: Asked::Has(Form::Normal),
         t: "II+",

@@ -1,8 +1,9 @@
 // The rows of the tables: questions about two terms, the answers and the costs.
 //
-// The costs come from the written rules; where a comment says "by hand", it says how.
-// A term is written after its parts, as `reading` reads it; the comment before it has it in the usual order. `x` and `y` are the variables 0 and 1.
-// `head`, `tail`, `pred`, `is_zero`, `first` and `added` are the matches that `reading` makes; `odd_pred` is `pred` with `plus O O` in place of `O`.
+// The costs come from the written rules; where a comment says "by hand", it says how. A term is
+// written after its parts, as `reading` reads it; the comment before it has it in the usual order.
+// `x` and `y` are the variables 0 and 1. `head`, `tail`, `pred`, `is_zero`, `first` and `added` are
+// the matches that `reading` makes; `odd_pred` is `pred` with `plus O O` in place of `O`.
 
 use mt_term::Mode;
 

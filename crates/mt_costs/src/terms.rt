@@ -75,7 +75,7 @@ pub fn branch(
     Ok(Branches::Item(b, rest))
 }
 
-/// A match on type `e` with a return function.
+/// A match on type `e` with a motive.
 pub fn match_on(
     alloc: Global,
     e: usize,

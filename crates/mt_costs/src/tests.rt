@@ -48,7 +48,8 @@ fn holds(
     Ok(on_layers == expected && on_kernel == expected)
 }
 
-// The number of the first row that does not hold, or for which memory or charges are wanting, from this number on.
+// The number of the first row that does not hold, or for which memory or charges are wanting, from
+// this number on.
 fn first_wrong(
     alloc: Global,
     pool: &mut Pool,

@@ -2,16 +2,17 @@
 use Rattle.std.specs.Prelude.{if◌then◌else◌}
 use Rattle.std.proofs.Common.{Bool, true, false, ◌&&◌, ◌||◌, nat_eq, length, ◌≡◌, ◌≤◌, ◌+◌, ℕ, List, [], ◌∷◌, Option, Some, None, refl, ap, ◌∙◌, arith}
 use Rattle.mt_term.specs.Trees.{Tree, Bytes, Sort, Prod}
-use Rattle.mt_term.specs.Declarations.{Hypothesis, Reason, Environment, Declaration, Axiom, Definition, Inductive, Recursive, Unbound, Taken, NotASort, NotPositive, NotGuarded, NotHere}
-use Rattle.mt_term.specs.Charges as charges
-use Rattle.mt_term.specs.Charges.{Outcome, Charged}
-use Rattle.mt_term.specs.AllowanceLaws as outcomes
+use Rattle.mt_term.specs.Declarations.{Hypothesis, Environment, Declaration, Axiom, Definition, Inductive, Recursive}
+use Rattle.mt_term.specs.Reasons.{Reason, Unbound, Taken, NotASort, NotPositive, NotGuarded, NotHere}
+use Rattle.mt_rules.specs.Charges as charges
+use Rattle.mt_rules.specs.Charges.{Outcome, Charged}
+use Rattle.mt_rules_laws.specs.AllowanceLaws as outcomes
 use Rattle.mt_term.specs.Stores.{no_store}
-use Rattle.mt_term.specs.KernelCheck.{check_type, check}
+use Rattle.mt_rules.specs.KernelCheck.{check_type, check}
 use Rattle.mt_term.specs.Naming.{named}
 use Rattle.mt_term.specs.declared.universes.Sort.{Sort as AnySort}
 use Rattle.mt_term.specs.declared.universes.Sort.TheVariants as sort
-use Rattle.mt_term.proofs.AllowanceTheorem.{allowance_law as kernel_law}
+use Rattle.mt_rules_laws.proofs.AllowanceTheorem.{allowance_law as kernel_law}
 use Rattle.mt_positivity.specs.Deciding.{is_positive}
 use Rattle.mt_guard.specs.Deciding.{is_guarded}
 use Rattle.mt_guard.specs.Corecursive.{is_co_guarded}
@@ -21,7 +22,7 @@ use Rattle.mt_unit_parser.specs.WrittenUnits.{WrittenGroup, WrittenCon, WrittenT
 use Rattle.mt_resolver.specs.Resolution.{Resolution, Found, Faults, first_place, resolved}
 use Rattle.mt_decl.specs.Answers.{Answer, Made, Refused, Spent, Answering, make, refuse, and_then, ◌>>=◌, taken, from_kernel, by_kernel, yes_or_no, is_accepted}
 use Rattle.mt_decl.specs.Telescopes.{abstracted, generalized, names_of, result_sort}
-use Rattle.mt_decl.specs.Declaring.{is_something, stands_in, all_new, constructor_names, resolved_groups, or_not_a_sort, or_not_positive, argument_check, arguments_fit, do_arguments_fit, argument_sorts, Family, one_more, declared_constructor, declared_constructors, declared_axiom, declared_definition, knowing, declared_family, declared_inductive, place_of, or_no_binder, or_not_guarded, assuming, function_rest, declared_recursive, declared_corecursive, declared_function, declared_entry}
+use Rattle.mt_decl.specs.Declaring.{is_something, stands_in, all_new, constructor_names, resolved_groups, or_not_a_sort, or_not_positive, argument_check, arguments_fit, do_arguments_fit, argument_sorts, NewFamily, one_more, declared_constructor, declared_constructors, declared_axiom, declared_definition, knowing, declared_family, declared_inductive, place_of, or_no_binder, or_not_guarded, assuming, function_rest, declared_recursive, declared_corecursive, declared_function, declared_entry}
 use Rattle.mt_decl.specs.EntryLaws.{with_more, rest, GoesByAllowance, DeclaredAllowanceLaw}
 
 -- ---- ways to put an answer together
@@ -126,7 +127,7 @@ module _ (E : Environment) where
   sorts_go start sort.Prop true Γ C = do_fit_goes sort.Prop Γ C
   sorts_go start sort.Prop false Γ C = make_goes false
 
-  pub constructor_goes : (start : ℕ) (f : Family) (only : Bool) (c : WrittenCon) → GoesByAllowance (declared_constructor E start f only c)
+  pub constructor_goes : (start : ℕ) (f : NewFamily) (only : Bool) (c : WrittenCon) → GoesByAllowance (declared_constructor E start f only c)
   constructor_goes start f only c =
       then_goes (taken (resolved E (names_of f.params) c.type)) _ (taken_goes (resolved E (names_of f.params) c.type)) (λ C.
       then_goes (or_not_positive c.at (is_positive f.number (length f.params) f.ty (generalized f.params C))) _ (positive_goes c.at (is_positive f.number (length f.params) f.ty (generalized f.params C))) (λ z.
@@ -134,7 +135,7 @@ module _ (E : Environment) where
       then_goes (by_kernel start (check_type E (generalized f.params C))) _ (kernel_goes start (check_type E (generalized f.params C)) (type_goes E (generalized f.params C))) (λ s.
       make_goes (record { name = c.name; ty = generalized f.params C }, large)))))
 
-  pub constructors_go : (start : ℕ) (f : Family) (only : Bool) (cs : List WrittenCon) → GoesByAllowance (declared_constructors E start f only cs)
+  pub constructors_go : (start : ℕ) (f : NewFamily) (only : Bool) (cs : List WrittenCon) → GoesByAllowance (declared_constructors E start f only cs)
   constructors_go start f only [] = make_goes ([], true)
   constructors_go start f only (c ∷ cs) =
       then_goes (declared_constructor E start f only c) _ (constructor_goes start f only c) (λ d.
@@ -164,7 +165,7 @@ module _ (E : Environment) (start : ℕ) where
 
   pub family_goes : (co : Bool) (t : WrittenType) (Γ : List Hypothesis) (T : Tree) (s : AnySort) → GoesByAllowance (declared_family E start co t Γ T s)
   family_goes co t Γ T s =
-      let F : Family = record { number = length E.entries; params = Γ; ty = T; sort = s } in
+      let F : NewFamily = record { number = length E.entries; params = Γ; ty = T; sort = s } in
       then_goes (declared_constructors (knowing E t.name co (length Γ) T) start F (nat_eq (length t.cons) 1) t.cons) _ (constructors_go (knowing E t.name co (length Γ) T) start F (nat_eq (length t.cons) 1) t.cons) (λ d.
       make_goes (Inductive t.name co (length Γ) T d.0 d.1))
 

@@ -4,8 +4,9 @@ use Rattle.std.proofs.Common.{◌∙◌, ap, sym, subst, arith, append_assoc}
 use Rattle.std.proofs.lemmas.List.{append-nil}
 use Rattle.mt_term.specs.Trees.{Bytes, Tree}
 use Rattle.mt_term.specs.declared.universes.Sort.{Sort as AnySort}
-use Rattle.mt_term.specs.Declarations.{Reason, Hypothesis, Constructor, Environment, NotPositive}
-use Rattle.mt_term.specs.Positivity.{Positive}
+use Rattle.mt_term.specs.Declarations.{Hypothesis, Constructor, Environment}
+use Rattle.mt_term.specs.Reasons.{Reason, NotPositive}
+use Rattle.mt_calculus.specs.Positivity.{Positive}
 use Rattle.mt_pool.specs.declared.nodes.TermId.{TermId}
 use Rattle.mt_pool.specs.declared.held.HeldConstructor.{HeldConstructor}
 use Rattle.mt_pool.specs.Region.{tree_at}
@@ -20,7 +21,7 @@ use Rattle.mt_unit_parser.specs.UnitOf.{con_of}
 use Rattle.mt_resolver.specs.Resolution.{Resolution, Found, Faults, resolved}
 use Rattle.mt_decl.specs.Answers.{Answer, Made, Refused, Spent, Answering, and_then, make, taken}
 use Rattle.mt_decl.specs.Telescopes.{generalized, names_of}
-use Rattle.mt_decl.specs.Declaring.{Declared, one_more, or_not_positive, declared_constructors}
+use Rattle.mt_decl.specs.Declaring.{DeclaredConstructors, one_more, or_not_positive, declared_constructors}
 use Rattle.mt_decl.specs.EntryLaws.{rest}
 use Rattle.mt_decl.specs.Fitting.{sorting}
 use Rattle.mt_decl.specs.Judging.{type_judged}
@@ -158,14 +159,14 @@ all_true true = refl
 all_true false = refl
 
 module _ (E : Environment) (start number : ℕ) (Γ : List Hypothesis) (T : Tree) (s : AnySort) (only : Bool) (before : List Constructor) (all : Bool) where
-  others : List RawCon → Constructor × Bool → Answering Declared
+  others : List RawCon → Constructor × Bool → Answering DeclaredConstructors
   others cs d m = and_then (declared_constructors E start (family number Γ T s) only (map con_of cs) m) (λ ds. make (one_more d.0 d.1 ds))
 
   on-is : (c : RawCon) (cs : List RawCon) (n : ℕ) → constructed_on E start number Γ T s only before all (c ∷ cs) n ≡ and_then (and_then (constructed E start number Γ T s only c.at c.name (written_of c.ty) n) (others cs)) (joined before all)
   unfolding constructed constructed_on others
   on-is c cs n = refl
 
-  join : (d : Constructor × Bool) (o : Answer Declared) → and_then (and_then o (λ ds. make (one_more d.0 d.1 ds))) (joined before all) ≡ and_then o (joined (before ++ d.0 ∷ []) (all && d.1))
+  join : (d : Constructor × Bool) (o : Answer DeclaredConstructors) → and_then (and_then o (λ ds. make (one_more d.0 d.1 ds))) (joined before all) ≡ and_then o (joined (before ++ d.0 ∷ []) (all && d.1))
   join d (Made ds l) = ap (λ (cs : List Constructor). Made (cs, all && (d.1 && ds.1)) l) (sym (append_assoc before (d.0 ∷ []) ds.0)) ∙ ap (λ (b : Bool). Made ((before ++ d.0 ∷ []) ++ ds.0, b) l) (all_of all d.1 ds.1)
   join d (Refused r at l) = refl
   join d Spent = refl

@@ -5,23 +5,24 @@ use Rattle.mt_term.specs.Trees.{Tree, Sort, Prod}
 use Rattle.mt_term.specs.declared.universes.Sort.{Sort as AnySort}
 use Rattle.mt_term.specs.declared.universes.Sort.TheVariants as sort
 use Rattle.mt_term.specs.Universes.{Constraints, SortIsAtMost}
-use Rattle.mt_term.specs.Declarations.{Hypothesis, Constructor, Environment, NotPositive}
-use Rattle.mt_term.specs.Contraction.{products}
-use Rattle.mt_term.specs.Typing.{Has, Strict}
-use Rattle.mt_term.specs.Inference.{context_types}
-use Rattle.mt_term.specs.Positivity.{Positive}
-use Rattle.mt_term.specs.SoundEnvironment.{Arity, arity_sort, arity_product, EachArgument, SortedAtMost, ArgumentSorts, SoundConstructor, SoundEnvironment}
-use Rattle.mt_term.specs.KernelCheck.{check_type, check}
-use Rattle.mt_term.proofs.Yields.{Yields}
-use Rattle.mt_term.proofs.ReductionTheorems.{type_check_law, check_law}
-use Rattle.mt_term.proofs.AlikeLaws.{both}
+use Rattle.mt_term.specs.Declarations.{Hypothesis, Constructor, Environment}
+use Rattle.mt_term.specs.Reasons.{NotPositive}
+use Rattle.mt_term.specs.Substitution.{products}
+use Rattle.mt_calculus.specs.Typing.{Has, Strict}
+use Rattle.mt_rules.specs.Inference.{context_types}
+use Rattle.mt_calculus.specs.Positivity.{Positive}
+use Rattle.mt_calculus.specs.SoundEnvironment.{Arity, arity_sort, arity_product, EachArgument, SortedAtMost, ArgumentSorts, SoundConstructor, SoundEnvironment}
+use Rattle.mt_rules.specs.KernelCheck.{check_type, check}
+use Rattle.mt_rules_laws.proofs.Yields.{Yields}
+use Rattle.mt_rules_laws.proofs.ReductionTheorems.{type_check_law, check_law}
+use Rattle.mt_calculus_laws.proofs.AlikeLaws.{both}
 use Rattle.mt_positivity.specs.Deciding.{is_positive}
 use Rattle.mt_positivity.proofs.Deciding.{positive-decides}
 use Rattle.mt_unit_parser.specs.WrittenUnits.{WrittenCon}
 use Rattle.mt_resolver.specs.Resolution.{resolved}
 use Rattle.mt_decl.specs.Answers.{by_kernel, is_accepted}
 use Rattle.mt_decl.specs.Telescopes.{generalized, names_of, result_sort}
-use Rattle.mt_decl.specs.Declaring.{or_not_positive, argument_check, arguments_fit, do_arguments_fit, argument_sorts, Family, Declared, one_more, declared_constructor, declared_constructors}
+use Rattle.mt_decl.specs.Declaring.{or_not_positive, argument_check, arguments_fit, do_arguments_fit, argument_sorts, NewFamily, DeclaredConstructors, one_more, declared_constructor, declared_constructors}
 use Rattle.mt_decl.proofs.Free.{Free, none_of, FreeContext, resolved_finds, generalized_free}
 use Rattle.mt_decl.proofs.ContextChecks.{abstracted_has}
 use Rattle.mt_decl.proofs.Makes.{Makes, makes, refuses, then_makes, so_makes, taken_makes, kernel_makes, accepted_makes}
@@ -89,7 +90,7 @@ abbrev SortsKnown : Environment → AnySort → Bool → List Hypothesis → Tre
 SortsKnown E s only Γ C large = ArgumentSorts E s (length Γ) (generalized Γ C) × (large ≡ true → Small E s only (length Γ) (generalized Γ C))
 
 -- what is known of declared constructors, of which there are so many
-pub record AllKnown (E : Environment) (f : Family) (only : Bool) (many : ℕ) (d : Declared) : Type 0 where
+pub record AllKnown (E : Environment) (f : NewFamily) (only : Bool) (many : ℕ) (d : DeclaredConstructors) : Type 0 where
   pub each : (k : ℕ) (c : Constructor) → slice_get d.0 k ≡ Some c → SoundConstructor E f.number (length f.params) f.ty f.sort c.ty
   pub small : d.1 ≡ true → AllSmall E f.sort only (length f.params) d.0
   pub as_many : length d.0 ≡ many
@@ -123,7 +124,7 @@ module _ (E : Environment) (sound : SoundEnvironment E) where
   sorts_make start sort.Prop true Γ C h free = so_makes (λ b. b ≡ true → AllSorted E sort.Prop Γ C) (SortsKnown E sort.Prop true Γ C) (do_arguments_fit E sort.Prop Γ C) (λ b all. (tt, λ e. (refl, each_closed (Sorted E sort.Prop) Γ C (all e)))) (do_fit_makes sort.Prop Γ C h free)
   sorts_make start sort.Prop false Γ C h free = makes (SortsKnown E sort.Prop false Γ C) false (tt, λ e. let no : ⊥ = cc in absurd no)
 
-  module _ (start : ℕ) (f : Family) (h : FreeContext f.params) (only : Bool) where
+  module _ (start : ℕ) (f : NewFamily) (h : FreeContext f.params) (only : Bool) where
     abbrev p : ℕ
     p = length f.params
 
@@ -149,7 +150,7 @@ module _ (E : Environment) (sound : SoundEnvironment E) where
     first_or_later c cs new all zero e is = let same : c ≡ e = cc in subst (λ (q : Constructor). SoundConstructor E f.number p f.ty f.sort q.ty) same new
     first_or_later c cs new all (suc k) e is = all k e is
 
-    more_known : (many : ℕ) (c : Constructor) (large : Bool) (ds : Declared) → Known (c, large) → AllKnown E f only many ds → AllKnown E f only (suc many) (one_more c large ds)
+    more_known : (many : ℕ) (c : Constructor) (large : Bool) (ds : DeclaredConstructors) → Known (c, large) → AllKnown E f only many ds → AllKnown E f only (suc many) (one_more c large ds)
     more_known many c large ds k all = record {
       each = first_or_later c ds.0 k.0 all.each;
       small = λ e. let q = both large ds.1 e in (k.1 q.0, all.small q.1);

@@ -1,24 +1,25 @@
 -- What the kernel's check of a term abstracted over a context gives of the term in that context.
 use Rattle.std.proofs.Common.{Bool, true, false, ◌≡◌, ℕ, zero, suc, ◌-◌, ◌<◌, List, [], ◌∷◌, refl, sym, ap, ◌∙◌, subst, arith}
 use Rattle.mt_term.specs.Trees.{Tree, Sort, Prod, Lam, End}
-use Rattle.mt_term.specs.Declarations.{Hypothesis, Environment, Mismatch}
+use Rattle.mt_term.specs.Declarations.{Hypothesis, Environment}
+use Rattle.mt_term.specs.Reasons.{Mismatch}
 use Rattle.mt_term.specs.declared.universes.Sort.{Sort as AnySort}
 use Rattle.mt_term.specs.declared.modes.Mode.TheVariants.{Equal, AtMost as InOrder}
-use Rattle.mt_term.specs.Charges.{Outcome, Done, Refused, Spent, Charged}
+use Rattle.mt_rules.specs.Charges.{Outcome, Done, Refused, Spent, Charged}
 use Rattle.mt_term.specs.Alike.{alike, is_alike}
 use Rattle.mt_term.specs.Stores.{no_store}
-use Rattle.mt_term.specs.Typing.{IsType, Has, Strict, t_sub, k_sort, k_cod}
-use Rattle.mt_term.specs.SoundEnvironment.{SoundEnvironment}
-use Rattle.mt_term.specs.WeakHead.{whd}
-use Rattle.mt_term.specs.Comparison.{convert, heads}
-use Rattle.mt_term.specs.Inference.{sorted, inferred, infer, context_types, agrees, agreed}
-use Rattle.mt_term.specs.KernelCheck.{check_type, check}
-use Rattle.mt_term.proofs.Yields.{Yields, gives, refuses, charges, then_yields, so_yields}
-use Rattle.mt_term.proofs.AlikeLaws.{both}
-use Rattle.mt_term.proofs.WeakHeadRules.{look-prod, whd-none}
-use Rattle.mt_term.proofs.ComparisonRules.{convert-out, convert-alike, convert-heads, heads-prod-yes, heads-prod-no, heads-prod-spent, heads-prod-refused}
-use Rattle.mt_term.proofs.ReductionTheorems.{comparison_law, strict_inference_law, type_check_law}
-use Rattle.mt_term.proofs.DerivationLaws.{context_law}
+use Rattle.mt_calculus.specs.Typing.{IsType, Has, Strict, t_sub, k_sort, k_cod}
+use Rattle.mt_calculus.specs.SoundEnvironment.{SoundEnvironment}
+use Rattle.mt_rules.specs.WeakHead.{whd}
+use Rattle.mt_rules.specs.Comparison.{convert, heads}
+use Rattle.mt_rules.specs.Inference.{sorted, inferred, infer, context_types, agrees, agreed}
+use Rattle.mt_rules.specs.KernelCheck.{check_type, check}
+use Rattle.mt_rules_laws.proofs.Yields.{Yields, gives, refuses, charges, then_yields, so_yields}
+use Rattle.mt_calculus_laws.proofs.AlikeLaws.{both}
+use Rattle.mt_rules_laws.proofs.WeakHeadRules.{look-prod, whd-none}
+use Rattle.mt_rules_laws.proofs.ComparisonRules.{convert-out, convert-alike, convert-heads, heads-prod-yes, heads-prod-no, heads-prod-spent, heads-prod-refused}
+use Rattle.mt_rules_laws.proofs.ReductionTheorems.{comparison_law, strict_inference_law, type_check_law}
+use Rattle.mt_calculus_laws.proofs.DerivationLaws.{context_law}
 use Rattle.mt_decl.specs.Telescopes.{abstracted, generalized}
 use Rattle.mt_decl.proofs.Free.{Free, none_of}
 

@@ -3,7 +3,8 @@ use Rattle.std.specs.Prelude.{ℕ, ◌≡◌, ◌≤◌, ◌+◌, Bool, true, fa
 use Rattle.std.proofs.Common.{◌∙◌, ap, sym, arith}
 use Rattle.mt_term.specs.Trees.{Bytes, Tree}
 use Rattle.mt_term.specs.declared.universes.Sort.{Sort as AnySort}
-use Rattle.mt_term.specs.Declarations.{Reason, Hypothesis, Declaration, Inductive, Recursive, Environment, NotASort}
+use Rattle.mt_term.specs.Declarations.{Hypothesis, Declaration, Inductive, Recursive, Environment}
+use Rattle.mt_term.specs.Reasons.{Reason, NotASort}
 use Rattle.mt_guard.specs.Deciding.{is_guarded}
 use Rattle.mt_guard.specs.Corecursive.{is_co_guarded}
 use Rattle.mt_term_parser.specs.WrittenOf.{written_of}
@@ -15,7 +16,7 @@ use Rattle.mt_unit_parser.specs.UnitOf.{con_of, function_of, group_of, type_of}
 use Rattle.mt_resolver.specs.Resolution.{Resolution, Found, Faults, then_found, first_place, resolved}
 use Rattle.mt_decl.specs.Answers.{Answer, Made, Refused, Spent, Answering, and_then, make, taken}
 use Rattle.mt_decl.specs.Telescopes.{generalized, names_of, result_sort}
-use Rattle.mt_decl.specs.Declaring.{Declared, declared_constructors, knowing, or_no_binder, or_not_a_sort, place_of, resolved_groups}
+use Rattle.mt_decl.specs.Declaring.{DeclaredConstructors, declared_constructors, knowing, or_no_binder, or_not_a_sort, place_of, resolved_groups}
 use Rattle.mt_decl.specs.EntryLaws.{rest}
 use Rattle.mt_decl.specs.Judging.{type_judged}
 use Rattle.mt_decl.specs.Constructing.{family, joined, constructed_on}
@@ -30,7 +31,7 @@ use Rattle.mt_decl.proofs.Sequences.{taken_rest, then_rest, drop_one, drop_past}
 -- ---- constructors where the environment knows the type
 
 module _ (E : Environment) (start number : ℕ) (Γ : List Hypothesis) (T : Tree) (s : AnySort) (many : ℕ) (co : Bool) (t : RawType) where
-  joined_none : (o : Answer Declared) → and_then o (joined [] true) ≡ o
+  joined_none : (o : Answer DeclaredConstructors) → and_then o (joined [] true) ≡ o
   joined_none (Made d l) = refl
   joined_none (Refused r at l) = refl
   joined_none Spent = refl
@@ -59,7 +60,7 @@ count_of t = counted t.cons
     counted (c ∷ cs) = ap suc (counted cs)
 
 module _ (E : Environment) (start : ℕ) (co : Bool) (t : RawType) (Γ : List Hypothesis) (T : Tree) (s : AnySort) where
-  entry : Declared → Answering Declaration
+  entry : DeclaredConstructors → Answering Declaration
   entry d = make (Inductive t.name co (length Γ) T d.0 d.1)
 
   family-is : (n : ℕ) → family_end E start co t Γ T s n ≡ and_then (family_known E start (length E.entries) Γ T s (length Γ) co t n) entry
@@ -70,15 +71,15 @@ module _ (E : Environment) (start : ℕ) (co : Bool) (t : RawType) (Γ : List Hy
     family-at : family_end E start co t Γ T s n ≡ and_then (family_known E start number Γ T s many co t n) entry
     family-at = family-is n ∙ ap (λ k. and_then (family_known E start k Γ T s (length Γ) co t n) entry) (sym first) ∙ ap (λ k. and_then (family_known E start number Γ T s k co t n) entry) (sym all)
 
-    pub family-made : (d : Declared) (l : ℕ) → family_known E start number Γ T s many co t n ≡ Made d l → family_end E start co t Γ T s n ≡ Made (Inductive t.name co many T d.0 d.1) l
+    pub family-made : (d : DeclaredConstructors) (l : ℕ) → family_known E start number Γ T s many co t n ≡ Made d l → family_end E start co t Γ T s n ≡ Made (Inductive t.name co many T d.0 d.1) l
     unfolding entry
-    family-made d l e = family-at ∙ ap (λ (o : Answer Declared). and_then o entry) e ∙ ap (λ k. Made (Inductive t.name co k T d.0 d.1) l) (sym all)
+    family-made d l e = family-at ∙ ap (λ (o : Answer DeclaredConstructors). and_then o entry) e ∙ ap (λ k. Made (Inductive t.name co k T d.0 d.1) l) (sym all)
 
     pub family-refused : (r : Reason) (at l : ℕ) → family_known E start number Γ T s many co t n ≡ Refused r at l → family_end E start co t Γ T s n ≡ Refused r at l
-    family-refused r at l e = family-at ∙ ap (λ (o : Answer Declared). and_then o entry) e
+    family-refused r at l e = family-at ∙ ap (λ (o : Answer DeclaredConstructors). and_then o entry) e
 
     pub family-spent : family_known E start number Γ T s many co t n ≡ Spent → family_end E start co t Γ T s n ≡ Spent
-    family-spent e = family-at ∙ ap (λ (o : Answer Declared). and_then o entry) e
+    family-spent e = family-at ∙ ap (λ (o : Answer DeclaredConstructors). and_then o entry) e
 
     pub family-within : rest (family_end E start co t Γ T s n) ≤ rest (family_known E start number Γ T s many co t n)
     unfolding entry

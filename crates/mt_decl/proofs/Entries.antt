@@ -2,7 +2,7 @@
 use Rattle.std.proofs.Common.{◌≡◌, ℕ, zero, suc, ◌<◌, ◌≤◌, List, [], ◌∷◌, ◌++◌, length, Some, refl, sym, ap, ◌∙◌, subst, arith}
 use Rattle.std.specs.Prelude.{take, slice_get}
 use Rattle.mt_term.specs.Declarations.{Declaration, Environment}
-use Rattle.mt_term.specs.SoundEnvironment.{before, with_entry, SoundEntry, SoundEnvironment}
+use Rattle.mt_calculus.specs.SoundEnvironment.{before, with_entry, SoundEntry, SoundEnvironment}
 
 -- the entries before a place stay, and before the end there are all
 take_more : (n : ℕ) (es : List Declaration) (d : Declaration) → n ≤ length es → take n (es ++ d ∷ []) ≡ take n es

@@ -5,11 +5,12 @@ use Rattle.mt_term.specs.Trees.{Bytes, Tree, Trees, Arms, Var, Sort, Prod, Lam, 
 use Rattle.mt_term.specs.declared.universes.Sort.{Sort as AnySort}
 use Rattle.mt_term.specs.declared.universes.UnivExpr.{UnivExpr}
 use Rattle.mt_term.specs.declared.universes.Sort.TheVariants as sort
-use Rattle.mt_term.specs.Declarations.{Reason, Hypothesis, Environment, KernelRefused, number_of}
-use Rattle.mt_term.specs.Charges as charges
-use Rattle.mt_term.specs.Charges.{Outcome}
-use Rattle.mt_term.specs.KernelCheck.{check}
-use Rattle.mt_term.proofs.InferenceLaws.{check-rest}
+use Rattle.mt_term.specs.Declarations.{Hypothesis, Environment}
+use Rattle.mt_term.specs.Reasons.{Reason, KernelRefused, number_of}
+use Rattle.mt_rules.specs.Charges as charges
+use Rattle.mt_rules.specs.Charges.{Outcome}
+use Rattle.mt_rules.specs.KernelCheck.{check}
+use Rattle.mt_rules_laws.proofs.InferenceLaws.{check-rest}
 use Rattle.mt_decl.specs.Answers.{Answer, Made, Refused, Spent, Answering, and_then, make, from_kernel, yes_or_no, by_kernel}
 use Rattle.mt_decl.specs.Telescopes.{abstracted, generalized}
 use Rattle.mt_decl.specs.Declaring.{argument_check, arguments_fit, do_arguments_fit}

@@ -3,11 +3,12 @@ use Rattle.std.proofs.Common.{Bool, true, false, ◌≡◌, ℕ, suc, List, [], 
 use Rattle.std.specs.Prelude.{if◌then◌else◌}
 use Rattle.std.specs.Str.{bytes_eq}
 use Rattle.mt_term.specs.Trees.{Tree, Arms, Bytes, Var, Prod, Lam, App, Match, NoArm, Arm}
-use Rattle.mt_term.specs.Declarations.{Hypothesis, Constructor, Declaration, Axiom, Definition, Inductive, Recursive, Environment, Reason, Unbound, NotHere}
+use Rattle.mt_term.specs.Declarations.{Hypothesis, Constructor, Declaration, Axiom, Definition, Inductive, Recursive, Environment}
+use Rattle.mt_term.specs.Reasons.{Reason, Unbound, NotHere}
 use Rattle.mt_term.specs.Naming.{Naming, find, named, naming_from, naming_entry, naming_constructors, as_term, constructors_of}
 use Rattle.mt_term.specs.Stores.{AllMetas, AllMetasArms, Mentions}
 use Rattle.mt_term.proofs.ReachLaws.{term_of_all}
-use Rattle.mt_term.proofs.Yields.{some_is, nothing}
+use Rattle.mt_rules_laws.proofs.Yields.{some_is, nothing}
 use Rattle.mt_term_parser.specs.Written as raw
 use Rattle.mt_term_parser.specs.Written.{Written, Form, Arguments, Cases, Term, Absent, Given, NoArgument, Argument, NoCase, Case}
 use Rattle.mt_term_parser.specs.declared.raw.RawSort.{RawSort}

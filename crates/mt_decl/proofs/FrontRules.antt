@@ -3,7 +3,8 @@ use Rattle.std.specs.Prelude.{ℕ, ◌≡◌, ◌+◌, Bool, true, false, ◌||�
 use Rattle.std.specs.Str.{bytes_eq}
 use Rattle.std.proofs.Common.{ap, sym, ◌∙◌, arith}
 use Rattle.mt_term.specs.Trees.{Tree, Bytes}
-use Rattle.mt_term.specs.Declarations.{Reason, Environment, Taken}
+use Rattle.mt_term.specs.Declarations.{Environment}
+use Rattle.mt_term.specs.Reasons.{Reason, Taken}
 use Rattle.mt_term.specs.Naming.{Naming, find, named}
 use Rattle.mt_unit_parser.specs.declared.units.RawCon.{RawCon}
 use Rattle.mt_unit_parser.specs.UnitOf.{con_of}

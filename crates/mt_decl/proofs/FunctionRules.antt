@@ -2,7 +2,8 @@
 use Rattle.std.specs.Prelude.{ℕ, ◌≡◌, ◌≤◌, ◌-◌, Bool, true, false, List, length, Option, Some, None, refl}
 use Rattle.std.proofs.Common.{ap, sym, ◌∙◌, arith}
 use Rattle.mt_term.specs.Trees.{Tree, Bytes}
-use Rattle.mt_term.specs.Declarations.{Reason, Hypothesis, Declaration, Recursive, Environment, NotGuarded, Unbound}
+use Rattle.mt_term.specs.Declarations.{Hypothesis, Declaration, Recursive, Environment}
+use Rattle.mt_term.specs.Reasons.{Reason, NotGuarded, Unbound}
 use Rattle.mt_term.specs.declared.universes.Sort.{Sort as AnySort}
 use Rattle.mt_guard.specs.Entries.{guards_entry}
 use Rattle.mt_guard.proofs.Growing.{declarations-length, environment-kept}

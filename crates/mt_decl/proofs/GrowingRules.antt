@@ -5,7 +5,7 @@ use Rattle.std.proofs.lemmas.List.{append-nil}
 use Rattle.std.proofs.Math.Seq.{take-append_seam}
 use Rattle.mt_term.specs.Trees.{Bytes}
 use Rattle.mt_term.specs.Declarations.{Declaration, Environment}
-use Rattle.mt_term.specs.SoundEnvironment.{before}
+use Rattle.mt_calculus.specs.SoundEnvironment.{before}
 use Rattle.mt_resolver.proofs.Tables.{Extends-cut}
 use Rattle.mt_decl.specs.Growing.{Grows}
 

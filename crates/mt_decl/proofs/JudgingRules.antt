@@ -2,10 +2,11 @@
 use Rattle.std.specs.Prelude.{ℕ, ◌≡◌, ◌≤◌}
 use Rattle.std.proofs.Common.{ap, arith}
 use Rattle.mt_term.specs.Trees.{Tree}
-use Rattle.mt_term.specs.Declarations.{Reason, Environment, KernelRefused, number_of}
-use Rattle.mt_term.specs.Charges as charges
-use Rattle.mt_term.specs.Charges.{Outcome}
-use Rattle.mt_term.specs.KernelCheck.{check_type, check}
+use Rattle.mt_term.specs.Declarations.{Environment}
+use Rattle.mt_term.specs.Reasons.{Reason, KernelRefused, number_of}
+use Rattle.mt_rules.specs.Charges as charges
+use Rattle.mt_rules.specs.Charges.{Outcome}
+use Rattle.mt_rules.specs.KernelCheck.{check_type, check}
 use Rattle.mt_term.specs.declared.universes.Sort.{Sort as AnySort}
 use Rattle.mt_decl.specs.Answers.{Made, Refused, Spent, from_kernel}
 use Rattle.mt_decl.specs.EntryLaws.{rest}

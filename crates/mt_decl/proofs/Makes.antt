@@ -1,9 +1,9 @@
 -- What a unit's answer has as its property, whatever the allowance: one rule for each way to put it together.
 use Rattle.std.proofs.Common.{true, false, ◌≡◌, ℕ, refl, subst}
-use Rattle.mt_term.specs.Declarations.{Reason}
-use Rattle.mt_term.specs.Charges as charges
-use Rattle.mt_term.specs.Charges.{Outcome, Charged}
-use Rattle.mt_term.proofs.Yields.{Yields}
+use Rattle.mt_term.specs.Reasons.{Reason}
+use Rattle.mt_rules.specs.Charges as charges
+use Rattle.mt_rules.specs.Charges.{Outcome, Charged}
+use Rattle.mt_rules_laws.proofs.Yields.{Yields}
 use Rattle.mt_resolver.specs.Resolution.{Resolution, Found, Faults}
 use Rattle.mt_decl.specs.Answers.{Answer, Made, Refused, Spent, Answering, make, refuse, and_then, ◌>>=◌, taken, from_kernel, by_kernel, yes_or_no, is_accepted}
 use Rattle.mt_decl.proofs.Free.{Finds}

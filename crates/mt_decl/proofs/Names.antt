@@ -4,9 +4,10 @@ use Rattle.std.specs.Str.{bytes_eq}
 use Rattle.std.proofs.Common.{Bool, true, false, ◌||◌, nat_eq, length, ◌≡◌, ℕ, suc, List, [], ◌∷◌, ◌++◌, Option, Some, None, refl, sym, ap, ◌∙◌, subst, append_assoc}
 use Rattle.std.proofs.lemmas.List.{append-nil}
 use Rattle.mt_term.specs.Trees.{Tree, Bytes}
-use Rattle.mt_term.specs.Declarations.{Hypothesis, Constructor, Declaration, Axiom, Definition, Inductive, Recursive, Environment, Taken, NotHere}
+use Rattle.mt_term.specs.Declarations.{Hypothesis, Constructor, Declaration, Axiom, Definition, Inductive, Recursive, Environment}
+use Rattle.mt_term.specs.Reasons.{Taken, NotHere}
 use Rattle.mt_term.specs.Naming.{Naming, find, named, naming, naming_entry, naming_constructors}
-use Rattle.mt_term.specs.KernelCheck.{check_type, check}
+use Rattle.mt_rules.specs.KernelCheck.{check_type, check}
 use Rattle.mt_term.specs.declared.universes.Sort.{Sort as AnySort}
 use Rattle.mt_positivity.specs.Deciding.{is_positive}
 use Rattle.mt_guard.specs.Deciding.{is_guarded}
@@ -21,7 +22,7 @@ use Rattle.mt_env.proofs.NameLaws.{distinct_more}
 use Rattle.mt_env.proofs.NamingLaws.{naming_last}
 use Rattle.mt_decl.specs.Answers.{refuse, taken, by_kernel}
 use Rattle.mt_decl.specs.Telescopes.{abstracted, generalized, names_of, result_sort}
-use Rattle.mt_decl.specs.Declaring.{is_something, stands_in, all_new, constructor_names, resolved_groups, or_not_a_sort, or_not_positive, argument_sorts, Family, Declared, one_more, declared_constructor, declared_constructors, declared_axiom, declared_definition, knowing, declared_family, declared_inductive, place_of, or_no_binder, or_not_guarded, assuming, function_rest, declared_recursive, declared_corecursive, declared_function, declared_entry}
+use Rattle.mt_decl.specs.Declaring.{is_something, stands_in, all_new, constructor_names, resolved_groups, or_not_a_sort, or_not_positive, argument_sorts, NewFamily, DeclaredConstructors, one_more, declared_constructor, declared_constructors, declared_axiom, declared_definition, knowing, declared_family, declared_inductive, place_of, or_no_binder, or_not_guarded, assuming, function_rest, declared_recursive, declared_corecursive, declared_function, declared_entry}
 use Rattle.mt_decl.specs.EntryLaws.{DeclaredNamesLaw}
 use Rattle.mt_decl.proofs.Makes.{Makes, makes, refuses, then_makes, so_makes, any_made}
 
@@ -78,7 +79,7 @@ their_names : (n k : ℕ) (cs : List Constructor) → names_in (naming_construct
 their_names n k [] = refl
 their_names n k (c ∷ cs) = ap (λ xs. c.name ∷ xs) (their_names n (suc k) cs)
 
-constructor_named : (E : Environment) (start : ℕ) (f : Family) (only : Bool) (c : WrittenCon) → Makes (declared_constructor E start f only c) (λ d. d.0.name ≡ c.name)
+constructor_named : (E : Environment) (start : ℕ) (f : NewFamily) (only : Bool) (c : WrittenCon) → Makes (declared_constructor E start f only c) (λ d. d.0.name ≡ c.name)
 constructor_named E start f only c =
     then_makes (λ z. Unit {0}) (λ d. d.0.name ≡ c.name) (taken (resolved E (names_of f.params) c.type)) _ (any_made (taken (resolved E (names_of f.params) c.type))) (λ C u.
     then_makes (λ z. Unit {0}) (λ d. d.0.name ≡ c.name) (or_not_positive c.at (is_positive f.number (length f.params) f.ty (generalized f.params C))) _ (any_made (or_not_positive c.at (is_positive f.number (length f.params) f.ty (generalized f.params C)))) (λ z u.
@@ -86,13 +87,13 @@ constructor_named E start f only c =
     then_makes (λ z. Unit {0}) (λ d. d.0.name ≡ c.name) (by_kernel start (check_type E (generalized f.params C))) _ (any_made (by_kernel start (check_type E (generalized f.params C)))) (λ s u.
     makes (λ d. d.0.name ≡ c.name) (record { name = c.name; ty = generalized f.params C }, large) refl))))
 
-abbrev Named : List WrittenCon → Declared → Type 0
+abbrev Named : List WrittenCon → DeclaredConstructors → Type 0
 Named cs ds = names_of_constructors ds.0 ≡ constructor_names cs
 
-both_named : (c : WrittenCon) (cs : List WrittenCon) (d : Constructor) (large : Bool) (ds : Declared) → d.name ≡ c.name → Named cs ds → Named (c ∷ cs) (one_more d large ds)
+both_named : (c : WrittenCon) (cs : List WrittenCon) (d : Constructor) (large : Bool) (ds : DeclaredConstructors) → d.name ≡ c.name → Named cs ds → Named (c ∷ cs) (one_more d large ds)
 both_named c cs d large ds e f = ap (λ (x : Bytes). x ∷ names_of_constructors ds.0) e ∙ ap (λ (xs : List Bytes). c.name ∷ xs) f
 
-constructors_named : (E : Environment) (start : ℕ) (f : Family) (only : Bool) (cs : List WrittenCon) → Makes (declared_constructors E start f only cs) (Named cs)
+constructors_named : (E : Environment) (start : ℕ) (f : NewFamily) (only : Bool) (cs : List WrittenCon) → Makes (declared_constructors E start f only cs) (Named cs)
 constructors_named E start f only [] = makes (Named []) ([], true) refl
 constructors_named E start f only (c ∷ cs) =
     then_makes (λ d. d.0.name ≡ c.name) (Named (c ∷ cs)) (declared_constructor E start f only c) _ (constructor_named E start f only c) (λ d e.
@@ -122,7 +123,7 @@ module _ (E : Environment) (start : ℕ) where
   family_named : (co : Bool) (t : WrittenType) (Γ : List Hypothesis) (T : Tree) (s : AnySort) → Free (t.name ∷ constructor_names t.cons) → Makes (declared_family E start co t Γ T s) Fresh
   family_named co t Γ T s new =
       let K : Environment = knowing E t.name co (length Γ) T in
-      let F : Family = record { number = length E.entries; params = Γ; ty = T; sort = s } in
+      let F : NewFamily = record { number = length E.entries; params = Γ; ty = T; sort = s } in
       then_makes (Named t.cons) Fresh (declared_constructors K start F (nat_eq (length t.cons) 1) t.cons) _ (constructors_named K start F (nat_eq (length t.cons) 1) t.cons) (λ d named.
       makes Fresh (Inductive t.name co (length Γ) T d.0 d.1) (subst (λ (xs : List Bytes). Free (t.name ∷ xs)) (sym (their_names (length E.entries) 0 d.0 ∙ named)) new))
 

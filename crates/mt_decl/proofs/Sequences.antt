@@ -2,8 +2,8 @@
 use Rattle.std.specs.Prelude.{ℕ, ◌≡◌, ◌≤◌, List, [], ◌∷◌, suc, zero, drop, Some, None, slice_get, refl}
 use Rattle.std.proofs.Common.{ap, arith}
 use Rattle.std.proofs.Math.Seq.{drop-nil}
-use Rattle.mt_term.specs.Charges as charges
-use Rattle.mt_term.specs.Charges.{Outcome}
+use Rattle.mt_rules.specs.Charges as charges
+use Rattle.mt_rules.specs.Charges.{Outcome}
 use Rattle.mt_resolver.specs.Resolution.{Resolution, Found, Faults, then_found}
 use Rattle.mt_decl.specs.Answers.{Answer, Made, Refused, Spent, Answering, and_then, from_kernel, yes_or_no, taken}
 use Rattle.mt_decl.specs.EntryLaws.{rest}

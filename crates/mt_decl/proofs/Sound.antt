@@ -4,12 +4,13 @@ use Rattle.std.proofs.lemmas.Bool.Decides.{Decides-eqb}
 use Rattle.mt_term.specs.Trees.{Tree, Bytes, Sort}
 use Rattle.mt_term.specs.declared.universes.Sort.{Sort as AnySort}
 use Rattle.mt_term.specs.declared.universes.Sort.TheVariants as sort
-use Rattle.mt_term.specs.Declarations.{Hypothesis, Constructor, Declaration, Axiom, Definition, Inductive, Recursive, Environment, NotASort, NotGuarded, NotHere}
-use Rattle.mt_term.specs.Contraction.{products}
-use Rattle.mt_term.specs.Typing.{Has, Strict}
-use Rattle.mt_term.specs.SoundEnvironment.{Arity, LargeAllowed, not_prop, no_constructor, one_constructor, SoundEntry, sound_axiom, sound_definition, sound_inductive, sound_recursive, sound_corecursive, SoundEnvironment}
-use Rattle.mt_term.specs.Guard.{GuardedRecursive, GuardedCorecursive}
-use Rattle.mt_term.specs.KernelCheck.{check_type, check}
+use Rattle.mt_term.specs.Declarations.{Hypothesis, Constructor, Declaration, Axiom, Definition, Inductive, Recursive, Environment}
+use Rattle.mt_term.specs.Reasons.{NotASort, NotGuarded, NotHere}
+use Rattle.mt_term.specs.Substitution.{products}
+use Rattle.mt_calculus.specs.Typing.{Has, Strict}
+use Rattle.mt_calculus.specs.SoundEnvironment.{Arity, LargeAllowed, not_prop, no_constructor, one_constructor, SoundEntry, sound_axiom, sound_definition, sound_inductive, sound_recursive, sound_corecursive, SoundEnvironment}
+use Rattle.mt_calculus.specs.Guard.{GuardedRecursive, GuardedCorecursive}
+use Rattle.mt_rules.specs.KernelCheck.{check_type, check}
 use Rattle.mt_guard.specs.Deciding.{is_guarded}
 use Rattle.mt_guard.specs.Corecursive.{is_co_guarded}
 use Rattle.mt_guard.proofs.Deciding.{guarded-decides}
@@ -20,7 +21,7 @@ use Rattle.mt_unit_parser.specs.WrittenUnits.{WrittenGroup, WrittenType, Written
 use Rattle.mt_resolver.specs.Resolution.{first_place, resolved}
 use Rattle.mt_decl.specs.Answers.{refuse, by_kernel}
 use Rattle.mt_decl.specs.Telescopes.{abstracted, generalized, names_of, result_sort}
-use Rattle.mt_decl.specs.Declaring.{all_new, constructor_names, resolved_groups, or_not_a_sort, Family, declared_axiom, declared_definition, knowing, declared_family, declared_inductive, place_of, or_no_binder, or_not_guarded, assuming, function_rest, declared_recursive, declared_corecursive, declared_function, declared_entry}
+use Rattle.mt_decl.specs.Declaring.{all_new, constructor_names, resolved_groups, or_not_a_sort, NewFamily, declared_axiom, declared_definition, knowing, declared_family, declared_inductive, place_of, or_no_binder, or_not_guarded, assuming, function_rest, declared_recursive, declared_corecursive, declared_function, declared_entry}
 use Rattle.mt_decl.specs.EntryLaws.{DeclaredLaw}
 use Rattle.mt_decl.proofs.Free.{Free, FreeContext, resolved_finds, groups_find, generalized_free, abstracted_free}
 use Rattle.mt_decl.proofs.Makes.{Makes, makes, refuses, then_makes, any_made, taken_makes, kernel_makes}
@@ -70,7 +71,7 @@ module _ (E : Environment) (sound : SoundEnvironment E) (start : ℕ) where
   family_makes : (co : Bool) (t : WrittenType) (Γ : List Hypothesis) (T : Tree) (s r : AnySort) → FreeContext Γ → Strict E [] (Has T (Sort r)) → Arity s T → length Γ ≤ products T → Makes (declared_family E start co t Γ T s) Fine
   family_makes co t Γ T s r h typed arity enough =
       let known = known_sound t.name co (length Γ) T s r typed arity enough in
-      let F : Family = record { number = length E.entries; params = Γ; ty = T; sort = s } in
+      let F : NewFamily = record { number = length E.entries; params = Γ; ty = T; sort = s } in
       let many = length t.cons in
       then_makes (AllKnown (knowing E t.name co (length Γ) T) F (nat_eq many 1) many) Fine _ _ (constructors_make (knowing E t.name co (length Γ) T) known start F h (nat_eq many 1) t.cons) (λ d all.
       makes Fine (Inductive t.name co (length Γ) T d.0 d.1) (sound_inductive {s = s} {r = r} typed arity enough all.each (λ e. large_allowed (knowing E t.name co (length Γ) T) (length Γ) s (nat_eq many 1) many d.0 (only_one many) all.as_many (all.small e))))

@@ -2,10 +2,11 @@
 use Rattle.std.specs.Prelude.{ℕ, ◌≡◌, ◌≤◌, Bool, true, false, nat_eq, List, [], ◌∷◌, length, map, drop, Some, None, slice_get, refl}
 use Rattle.std.proofs.Common.{◌∙◌, ap, arith}
 use Rattle.std.proofs.lemmas.Bool.{eqb-true}
-use Rattle.mt_term.proofs.Images.{none_some}
+use Rattle.mt_term.proofs.Options.{none_some}
 use Rattle.mt_term.specs.Trees.{Bytes, Tree}
 use Rattle.mt_term.specs.declared.universes.Sort.{Sort as AnySort}
-use Rattle.mt_term.specs.Declarations.{Reason, Declaration, Axiom, Definition, Environment, NotHere}
+use Rattle.mt_term.specs.Declarations.{Declaration, Axiom, Definition, Environment}
+use Rattle.mt_term.specs.Reasons.{Reason, NotHere}
 use Rattle.mt_term_parser.specs.Written.{Written, Absent, Given}
 use Rattle.mt_term_parser.specs.declared.raw.Raw.{Raw}
 use Rattle.mt_term_parser.specs.WrittenOf.{written_of}

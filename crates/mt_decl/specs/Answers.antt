@@ -1,8 +1,8 @@
 -- Answers of units, with charges: what is answered, or why a unit is refused and where.
 use Rattle.std.specs.Prelude.{ℕ, Bool, true, false}
-use Rattle.mt_term.specs.Declarations.{Reason, KernelRefused, number_of}
-use Rattle.mt_term.specs.Charges as charges
-use Rattle.mt_term.specs.Charges.{Outcome, Charged}
+use Rattle.mt_term.specs.Reasons.{Reason, KernelRefused, number_of}
+use Rattle.mt_rules.specs.Charges as charges
+use Rattle.mt_rules.specs.Charges.{Outcome, Charged}
 use Rattle.mt_resolver.specs.Resolution.{Resolution, Found, Faults}
 
 infixl 1 ◌>>=◌

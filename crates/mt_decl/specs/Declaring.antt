@@ -1,12 +1,15 @@
 -- The entry that a unit declares, each term taken by its names and checked by the kernel.
-use Rattle.std.specs.Prelude.{ℕ, Bool, true, false, ◌&&◌, ◌||◌, ◌-◌, suc, nat_eq, if◌then◌else◌, List, [], ◌∷◌, length, Option, Some, None}
+use Rattle.std.specs.Prelude.{ℕ, Bool, true, false, ◌&&◌, ◌||◌, ◌-◌, suc, nat_eq, if◌then◌else◌}
+use Rattle.std.specs.Prelude.{List, [], ◌∷◌, length, Option, Some, None}
 use Rattle.std.specs.Str.{bytes_eq}
 use Rattle.mt_term.specs.Trees.{Tree, Bytes, Sort, Prod}
-use Rattle.mt_term.specs.Declarations.{Hypothesis, Constructor, Declaration, Axiom, Definition, Inductive, Recursive, Environment, Unbound, Taken, NotASort, NotPositive, NotGuarded, NotHere}
-use Rattle.mt_term.specs.Charges.{Charged}
+use Rattle.mt_term.specs.Declarations.{Hypothesis, Constructor, Declaration, Axiom, Definition}
+use Rattle.mt_term.specs.Declarations.{Inductive, Recursive, Environment}
+use Rattle.mt_term.specs.Reasons.{Unbound, Taken, NotASort, NotPositive, NotGuarded, NotHere}
+use Rattle.mt_rules.specs.Charges.{Charged}
 use Rattle.mt_term.specs.Naming.{named}
-use Rattle.mt_term.specs.SoundEnvironment.{with_entry}
-use Rattle.mt_term.specs.KernelCheck.{check_type, check}
+use Rattle.mt_calculus.specs.SoundEnvironment.{with_entry}
+use Rattle.mt_rules.specs.KernelCheck.{check_type, check}
 use Rattle.mt_term.specs.declared.universes.Sort.{Sort as AnySort}
 use Rattle.mt_term.specs.declared.universes.Sort.TheVariants as sort
 use Rattle.mt_positivity.specs.Deciding.{is_positive}
@@ -14,7 +17,8 @@ use Rattle.mt_guard.specs.Deciding.{is_guarded}
 use Rattle.mt_guard.specs.Corecursive.{is_co_guarded}
 use Rattle.mt_term_parser.specs.Written.{Written, Given}
 use Rattle.mt_unit_parser.specs.WrittenUnits as unit
-use Rattle.mt_unit_parser.specs.WrittenUnits.{WrittenGroup, WrittenCon, WrittenType, WrittenFunction, WrittenKind}
+use Rattle.mt_unit_parser.specs.WrittenUnits.{WrittenGroup, WrittenCon, WrittenType}
+use Rattle.mt_unit_parser.specs.WrittenUnits.{WrittenFunction, WrittenKind}
 use Rattle.mt_resolver.specs.Resolution.{Resolution, Found, then_found, first_place, resolved}
 use Rattle.mt_decl.specs.Answers.{Answering, make, refuse, ◌>>=◌, taken, by_kernel, is_accepted}
 use Rattle.mt_decl.specs.Telescopes.{abstracted, generalized, names_of, result_sort}
@@ -31,10 +35,13 @@ abbrev pub is_something : Option Tree → Bool
 is_something None = false
 is_something (Some t) = true
 
--- each name is new: it names no entry and no constructor, and none of the earlier ones; the first that is not is refused
+-- each name is new: it names no entry and no constructor, and none of the earlier ones; the first
+-- that is not is refused
 abbrev pub all_new : Environment → ℕ → List Bytes → List Bytes → Answering (Unit {0})
 all_new E start earlier [] = make tt
-all_new E start earlier (x ∷ xs) = if is_something (named E.entries x) || stands_in x earlier then refuse (Taken x) start else all_new E start (x ∷ earlier) xs
+all_new E start earlier (x ∷ xs) =
+    if is_something (named E.entries x)
+    || stands_in x earlier then refuse (Taken x) start else all_new E start (x ∷ earlier) xs
 
 -- the names of constructors
 abbrev pub constructor_names : List WrittenCon → List Bytes
@@ -44,9 +51,12 @@ constructor_names (c ∷ cs) = c.name ∷ constructor_names cs
 -- ---- terms
 
 -- binders after a context, each type under the earlier ones
-abbrev pub resolved_groups : Environment → List Hypothesis → List WrittenGroup → Resolution (List Hypothesis)
+abbrev pub resolved_groups : Environment → List Hypothesis → List WrittenGroup
+    → Resolution (List Hypothesis)
 resolved_groups E Γ [] = Found Γ
-resolved_groups E Γ (g ∷ gs) = then_found (resolved E (names_of Γ) g.type) (λ A. resolved_groups E (record { name = g.name; ty = A } ∷ Γ) gs)
+resolved_groups E Γ (g ∷ gs) =
+    then_found (resolved E (names_of Γ) g.type)
+    (λ A. resolved_groups E (record { name = g.name; ty = A } ∷ Γ) gs)
 
 -- only where there is a sort, else NotASort
 abbrev pub or_not_a_sort : ℕ → Option AnySort → Answering AnySort
@@ -60,7 +70,8 @@ abbrev pub or_not_positive : ℕ → Bool → Answering (Unit {0})
 or_not_positive at true = make tt
 or_not_positive at false = refuse NotPositive at
 
--- The type of an argument, under the context before it, has this sort: abstracted over that context it has the product over it into the sort as its type.
+-- The type of an argument, under the context before it, has this sort: abstracted over that context
+-- it has the product over it into the sort as its type.
 abbrev pub argument_check : Environment → AnySort → List Hypothesis → Tree → Charged (Unit {0})
 argument_check E s Γ A = check E (abstracted Γ A) (generalized Γ (Sort s))
 
@@ -79,30 +90,35 @@ do_arguments_fit E s Γ (Prod x A B) = do
   make (first && others)
 do_arguments_fit E s Γ C = make true
 
--- The sorts of a constructor's arguments: whether they allow a match into every sort. In a type of sort Prop they are looked at only where the constructor is the only one.
-abbrev pub argument_sorts : Environment → ℕ → AnySort → Bool → List Hypothesis → Tree → Answering Bool
+-- The sorts of a constructor's arguments: whether they allow a match into every sort. In a type of
+-- sort Prop they are looked at only where the constructor is the only one.
+abbrev pub argument_sorts : Environment → ℕ → AnySort → Bool → List Hypothesis → Tree
+    → Answering Bool
 argument_sorts E start (sort.Typ u) only Γ C = do
   _ ← arguments_fit E start (sort.Typ u) Γ C
   make true
 argument_sorts E start sort.Prop true Γ C = do_arguments_fit E sort.Prop Γ C
 argument_sorts E start sort.Prop false Γ C = make false
 
--- an inductive type whose constructors are declared: its number, its parameters innermost first, its closed type and its sort
-pub record Family : Type 0 where
+-- an inductive type whose constructors are declared: its number, its parameters innermost first,
+-- its closed type and its sort
+pub record NewFamily : Type 0 where
   pub number : ℕ
   pub params : List Hypothesis
   pub ty : Tree
   pub sort : AnySort
 
 -- constructors, and whether they allow a match into every sort
-abbrev pub Declared : Type 0
-Declared = List Constructor × Bool
+abbrev pub DeclaredConstructors : Type 0
+DeclaredConstructors = List Constructor × Bool
 
-abbrev pub one_more : Constructor → Bool → Declared → Declared
+abbrev pub one_more : Constructor → Bool → DeclaredConstructors → DeclaredConstructors
 one_more c large d = (c ∷ d.0, large && d.1)
 
--- One constructor: its type under the parameters, where the environment knows the type; positivity; the sorts of its arguments; the kernel on its closed type.
-abbrev pub declared_constructor : Environment → ℕ → Family → Bool → WrittenCon → Answering (Constructor × Bool)
+-- One constructor: its type under the parameters, where the environment knows the type; positivity;
+-- the sorts of its arguments; the kernel on its closed type.
+abbrev pub declared_constructor : Environment → ℕ → NewFamily → Bool → WrittenCon
+    → Answering (Constructor × Bool)
 declared_constructor E start f only c = do
   C ← taken (resolved E (names_of f.params) c.type)
   _ ← or_not_positive c.at (is_positive f.number (length f.params) f.ty (generalized f.params C))
@@ -111,7 +127,8 @@ declared_constructor E start f only c = do
   make (record { name = c.name; ty = generalized f.params C }, large)
 
 -- the constructors in order
-abbrev pub declared_constructors : Environment → ℕ → Family → Bool → List WrittenCon → Answering Declared
+abbrev pub declared_constructors : Environment → ℕ → NewFamily → Bool → List WrittenCon
+    → Answering DeclaredConstructors
 declared_constructors E start f only [] = make ([], true)
 declared_constructors E start f only (c ∷ cs) = do
   d ← declared_constructor E start f only c
@@ -142,13 +159,17 @@ abbrev pub knowing : Environment → Bytes → Bool → ℕ → Tree → Environ
 knowing E x co p T = with_entry E (Inductive x co p T [] true)
 
 -- an inductive or coinductive type, from its parameters, its closed type and its sort on
-abbrev pub declared_family : Environment → ℕ → Bool → WrittenType → List Hypothesis → Tree → AnySort → Answering Declaration
+abbrev pub declared_family : Environment → ℕ → Bool → WrittenType → List Hypothesis → Tree → AnySort
+    → Answering Declaration
 declared_family E start co t Γ T s = do
-  d ← declared_constructors (knowing E t.name co (length Γ) T) start (record { number = length E.entries; params = Γ; ty = T; sort = s }) (nat_eq (length t.cons) 1) t.cons
+  d ← declared_constructors (knowing E t.name co (length Γ) T) start
+      (record { number = length E.entries; params = Γ; ty = T; sort = s })
+      (nat_eq (length t.cons) 1) t.cons
   make (Inductive t.name co (length Γ) T d.0 d.1)
 
 -- an inductive or coinductive type
-abbrev pub declared_inductive : Environment → ℕ → Bool → List WrittenGroup → WrittenType → Answering Declaration
+abbrev pub declared_inductive : Environment → ℕ → Bool → List WrittenGroup → WrittenType
+    → Answering Declaration
 declared_inductive E start co groups t = do
   _ ← all_new E start [] (t.name ∷ constructor_names t.cons)
   Γ ← taken (resolved_groups E [] groups)
@@ -178,8 +199,10 @@ or_not_guarded start false = refuse NotGuarded start
 abbrev pub assuming : Environment → Bytes → Tree → Environment
 assuming E x T = with_entry E (Axiom x T)
 
--- a function, from its binders and its closed type on: its body, where the environment knows it as an axiom; the guard; the kernel on the closed body
-abbrev pub function_rest : Environment → ℕ → WrittenFunction → List Hypothesis → Tree → (Tree → Bool) → (Tree → Declaration) → Answering Declaration
+-- a function, from its binders and its closed type on: its body, where the environment knows it as
+-- an axiom; the guard; the kernel on the closed body
+abbrev pub function_rest : Environment → ℕ → WrittenFunction → List Hypothesis → Tree
+    → (Tree → Bool) → (Tree → Declaration) → Answering Declaration
 function_rest E start f Γ T is_guarded_for entry = do
   b ← taken (resolved (assuming E f.name T) (names_of Γ) f.body)
   _ ← or_not_guarded start (is_guarded_for (abstracted Γ b))
@@ -194,7 +217,8 @@ declared_recursive E start f y = do
   T ← taken (resolved E (names_of Γ) f.type)
   r ← or_no_binder start y (place_of (length Γ) (first_place (names_of Γ) y))
   _ ← by_kernel start (check_type E (generalized Γ T))
-  function_rest E start f Γ (generalized Γ T) (is_guarded E (length E.entries) (length Γ) r) (λ b. Recursive f.name false (length Γ) r (generalized Γ T) b false)
+  function_rest E start f Γ (generalized Γ T) (is_guarded E (length E.entries) (length Γ) r)
+      (λ b. Recursive f.name false (length Γ) r (generalized Γ T) b false)
 
 -- a corecursive function
 abbrev pub declared_corecursive : Environment → ℕ → WrittenFunction → Answering Declaration
@@ -203,15 +227,19 @@ declared_corecursive E start f = do
   Γ ← taken (resolved_groups E [] f.groups)
   T ← taken (resolved E (names_of Γ) f.type)
   _ ← by_kernel start (check_type E (generalized Γ T))
-  function_rest E start f Γ (generalized Γ T) (is_co_guarded E (length E.entries) (length Γ) (generalized Γ T)) (λ b. Recursive f.name true (length Γ) 0 (generalized Γ T) b false)
+  function_rest E start f Γ (generalized Γ T)
+      (is_co_guarded E (length E.entries) (length Γ) (generalized Γ T))
+      (λ b. Recursive f.name true (length Γ) 0 (generalized Γ T) b false)
 
 -- a function, recursive where it names a binder
-abbrev pub declared_function : Environment → ℕ → Bool → WrittenFunction → Option Bytes → Answering Declaration
+abbrev pub declared_function : Environment → ℕ → Bool → WrittenFunction → Option Bytes
+    → Answering Declaration
 declared_function E start false f (Some y) = declared_recursive E start f y
 declared_function E start true f None = declared_corecursive E start f
 declared_function E start co f on = refuse NotHere start
 
--- The entry that a unit declares, which begins at this place. A unit that declares none, a definition without a type, and units of several types or functions are not here.
+-- The entry that a unit declares, which begins at this place. A unit that declares none, a
+-- definition without a type, and units of several types or functions are not here.
 abbrev pub declared_entry : Environment → ℕ → WrittenKind → Answering Declaration
 declared_entry E start (unit.Axiom x T) = declared_axiom E start x T
 declared_entry E start (unit.Definition x (Given T) b) = declared_definition E start x T b

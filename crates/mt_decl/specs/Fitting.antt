@@ -2,7 +2,7 @@
 use Rattle.std.specs.Prelude.{ℕ, Bool, List}
 use Rattle.mt_term.specs.Trees.{Tree}
 use Rattle.mt_term.specs.Declarations.{Hypothesis, Environment}
-use Rattle.mt_term.specs.Charges.{Charged}
+use Rattle.mt_rules.specs.Charges.{Charged}
 use Rattle.mt_term.specs.declared.universes.Sort.{Sort as AnySort}
 use Rattle.mt_decl.specs.Answers.{Answering, by_kernel, is_accepted}
 use Rattle.mt_decl.specs.Declaring.{argument_check, arguments_fit, do_arguments_fit, argument_sorts}

@@ -2,7 +2,7 @@
 use Rattle.std.specs.Prelude.{ℕ}
 use Rattle.mt_term.specs.Trees.{Tree}
 use Rattle.mt_term.specs.Declarations.{Environment}
-use Rattle.mt_term.specs.KernelCheck.{check_type, check}
+use Rattle.mt_rules.specs.KernelCheck.{check_type, check}
 use Rattle.mt_term.specs.declared.universes.Sort.{Sort as AnySort}
 use Rattle.mt_decl.specs.Answers.{Answering, by_kernel}
 

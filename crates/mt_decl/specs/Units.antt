@@ -30,8 +30,10 @@ body_judged E start T w = do
 unfoldable pub definition_unit : Environment → ℕ → Bytes → Written → Written → Answering Declaration
 definition_unit E start x w b = declared_definition E start x w b
 
-unfoldable pub types_unit : Environment → ℕ → Bool → List Group → List RawType → Answering Declaration
-types_unit E start co gs ts = declared_entry E start (unit.Inductive co (map group_of gs) (map type_of ts))
+unfoldable pub types_unit : Environment → ℕ → Bool → List Group → List RawType
+    → Answering Declaration
+types_unit E start co gs ts =
+    declared_entry E start (unit.Inductive co (map group_of gs) (map type_of ts))
 
 unfoldable pub functions_unit : Environment → ℕ → Bool → List RawFunction → Answering Declaration
 functions_unit E start co fs = declared_entry E start (unit.Recursive co (map function_of fs))

@@ -3,15 +3,15 @@ ghost use Rattle.std.specs.Prelude.{◌≡◌, ◌+◌};
 ghost use Rattle.mt_decl.specs.Declares.{Declares};
 ghost use Rattle.mt_decl.specs.Fitting.{accepting, all_fitting, checking, fitting, judging};
 ghost use Rattle.mt_decl.specs.TelescopeOf.{hypotheses_of};
-ghost use Rattle.mt_kernel.specs.Answers.{Answers};
+ghost use Rattle.mt_rules.specs.Answers.{Answers};
 ghost use Rattle.mt_term.specs.EnvironmentOf.{environment_of};
 ghost use Rattle.mt_decl.specs.Telescopes.{generalized};
 ghost use Rattle.mt_term.specs.TreeOf.{tree_of};
 ghost use Rattle.mt_term.specs.Trees.{Sort as SortTree};
 
-use crate::telescopes::{Telescope, abstracted, generalized};
+use crate::telescopes::{Telescope, abstraction_over, generalization_over};
 use mt_kernel::check_term;
-use mt_term::{Fault, Halt, MOST_DEEP, PlainEnv, Refusal, Sort, Stop, Term, copy, deeper};
+use mt_term::{Fault, Halt, MAX_DEPTH, PlainEnv, Refusal, Sort, Stop, Term, copy, deeper};
 use mt_text::{Ledger, Steps};
 use std::alloc::Global;
 
@@ -30,7 +30,7 @@ fn check_argument<L: Ledger>(
     ensures cost { steps.new + left.new ≡ steps.old + left.old }
 {
     let _left = *left;
-    let ty = generalized(alloc, telescope, Term::Sort(sort.clone()?), MOST_DEEP)?;
+    let ty = generalization_over(alloc, telescope, Term::Sort(sort.clone()?), MAX_DEPTH)?;
     check_against(alloc, env, sort, telescope, argument, &ty, left, steps)
 }
 
@@ -52,7 +52,7 @@ fn check_against<L: Ledger>(
 {
     let _left = *left;
     let _sort = sort;
-    let term = abstracted(alloc, telescope, copy(alloc, argument)?, MOST_DEEP)?;
+    let term = abstraction_over(alloc, telescope, copy(alloc, argument)?, MAX_DEPTH)?;
     check_term(alloc, env, &term, ty, left, steps)
 }
 
@@ -118,19 +118,19 @@ pub fn arguments_fit<L: Ledger>(
     telescope: &Telescope<'_>,
     t: &Term,
     left: &mut u64,
-    deep: usize,
+    depth_left: usize,
     steps: &mut Steps<L>,
 ) -> Result<(), Halt>
     ensures answer { Declares (λ a. a) (fitting (environment_of env.now) start sort.now (hypotheses_of telescope.now) (tree_of t.now) left.old) left.new result }
     ensures cost { steps.new + left.new ≡ steps.old + left.old }
 {
     let _left = *left;
-    let deep = deeper(deep)?;
+    let depth_left = deeper(depth_left)?;
     match t {
         Term::Prod(x, a, b) => {
             judge_argument(alloc, env, start, sort, telescope, a, left, steps)?;
             let inner = Telescope::More(&*x, &*a, &*telescope);
-            arguments_fit(alloc, env, start, sort, &inner, b, left, deep, steps)
+            arguments_fit(alloc, env, start, sort, &inner, b, left, depth_left, steps)
         }
         Term::Var(_)
         | Term::Sort(_)
@@ -154,19 +154,19 @@ pub fn do_arguments_fit<L: Ledger>(
     telescope: &Telescope<'_>,
     t: &Term,
     left: &mut u64,
-    deep: usize,
+    depth_left: usize,
     steps: &mut Steps<L>,
 ) -> Result<bool, Halt>
     ensures answer { Declares (λ b. b) (all_fitting (environment_of env.now) sort.now (hypotheses_of telescope.now) (tree_of t.now) left.old) left.new result }
     ensures cost { steps.new + left.new ≡ steps.old + left.old }
 {
     let _left = *left;
-    let deep = deeper(deep)?;
+    let depth_left = deeper(depth_left)?;
     match t {
         Term::Prod(x, a, b) => {
             let first = is_argument_accepted(alloc, env, sort, telescope, a, left, steps)?;
             let inner = Telescope::More(&*x, &*a, &*telescope);
-            let others = do_arguments_fit(alloc, env, sort, &inner, b, left, deep, steps)?;
+            let others = do_arguments_fit(alloc, env, sort, &inner, b, left, depth_left, steps)?;
             Ok(first && others)
         }
         Term::Var(_)

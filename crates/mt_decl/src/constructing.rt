@@ -18,12 +18,12 @@ ghost use Rattle.mt_term_parser.specs.WrittenOf.{written_of};
 
 use crate::arguments::{arguments_fit, do_arguments_fit};
 use crate::judging::judge_type;
-use crate::telescopes::{Telescope, count, generalized};
+use crate::telescopes::{Telescope, count, generalization_over};
 use mt_pool::{Held, HeldCons, HeldConstructor, Pool, TermId};
 use mt_positivity::positive;
 use mt_resolver::{Scope, Table, resolve};
 use mt_term::{
-    Cons, Constructor, Fault, Halt, MOST_DEEP, Name, OutOfMemory, PlainEnv, Refusal, Sort, Term,
+    Cons, Constructor, Fault, Halt, MAX_DEPTH, Name, OutOfMemory, PlainEnv, Refusal, Sort, Term,
     copy, deeper,
 };
 use mt_term_parser::Raw;
@@ -34,20 +34,20 @@ use std::alloc::Global;
 /// An inductive type whose constructors are declared: its number, its parameters, its closed type
 /// and its sort.
 #[derive(Clone, Copy)]
-pub struct Family<'a> {
+pub struct NewFamily<'a> {
     pub number: usize,
     pub params: &'a Telescope<'a>,
     pub ty: &'a Term,
     pub sort: &'a Sort,
 }
 
-/// The constructors of a type from a number on, after those that are declared, and whether all allow
-/// a match into every sort.
+/// The constructors of a type from a number on, after those that are declared, and whether all
+/// allow a match into every sort.
 ///
 /// # Errors
 ///
-/// Those of each constructor in order: of its type's names, `NotPositive`, and `KernelRefused` at the
-/// unit's start.
+/// Those of each constructor in order: of its type's names, `NotPositive`, and `KernelRefused` at
+/// the unit's start.
 #[tactic(auto, using(crate::proofs::ConstructingRules::constructors_rules, mt_pool::proofs::Region::kept))]
 pub fn declare_constructors<L: Ledger>(
     alloc: Global,
@@ -56,13 +56,13 @@ pub fn declare_constructors<L: Ledger>(
     names: &Table,
     start: usize,
     scope: &Scope<'_>,
-    family: &Family<'_>,
+    family: &NewFamily<'_>,
     only: bool,
     cons: &RawCons,
     from: usize,
     made: (Cons, bool),
     left: &mut u64,
-    deep: usize,
+    depth_left: usize,
     steps: &mut Steps<L>,
 ) -> Result<(Cons, bool), Halt>
     requires names { AreNamesOf names.now env.now.entries }
@@ -72,7 +72,7 @@ pub fn declare_constructors<L: Ledger>(
     ensures cost { steps.new + left.new ≡ steps.old + left.old }
 {
     let _left = *left;
-    let deep = deeper(deep)?;
+    let depth_left = deeper(depth_left)?;
     match cons.get(from) {
         None => Ok(made),
         Some(con) => {
@@ -82,8 +82,8 @@ pub fn declare_constructors<L: Ledger>(
             )?;
             let made = joined(made, one)?;
             declare_constructors(
-                alloc, pool, env, names, start, scope, family, only, cons, next, made, left, deep,
-                steps,
+                alloc, pool, env, names, start, scope, family, only, cons, next, made, left,
+                depth_left, steps,
             )
         }
     }
@@ -114,7 +114,7 @@ fn declare_constructor<L: Ledger>(
     names: &Table,
     start: usize,
     scope: &Scope<'_>,
-    family: &Family<'_>,
+    family: &NewFamily<'_>,
     only: bool,
     con: &RawCon,
     left: &mut u64,
@@ -155,7 +155,7 @@ fn declare_typed<L: Ledger>(
     pool: &mut Pool,
     env: &PlainEnv,
     start: usize,
-    family: &Family<'_>,
+    family: &NewFamily<'_>,
     only: bool,
     con: &RawCon,
     t: &Term,
@@ -167,7 +167,7 @@ fn declare_typed<L: Ledger>(
     ensures cost { steps.new + left.new ≡ steps.old + left.old }
 {
     let _left = *left;
-    let closed = generalized(alloc, family.params, copy(alloc, t)?, MOST_DEEP)?;
+    let closed = generalization_over(alloc, family.params, copy(alloc, t)?, MAX_DEPTH)?;
     if !is_constructor_positive(alloc, pool, family, &closed)? {
         return Err(Halt::Refused(Fault {
             refusal: Refusal::NotPositive,
@@ -184,13 +184,13 @@ fn declare_typed<L: Ledger>(
 fn is_constructor_positive(
     alloc: Global,
     pool: &mut Pool,
-    family: &Family<'_>,
+    family: &NewFamily<'_>,
     closed: &Term,
 ) -> Result<bool, OutOfMemory>
     ensures kept { Kept pool.old pool.new }
     ensures positive { IfOk result (λ b. b ≡ is_positive family.now.number (length (hypotheses_of family.now.params.now)) (tree_of family.now.ty.now) (tree_of closed.now)) }
 {
-    let params = count(family.params, MOST_DEEP)?;
+    let params = count(family.params, MAX_DEPTH)?;
     let ty = pool.import(alloc, family.ty)?;
     let closed = pool.import(alloc, closed)?;
     is_held_positive(alloc, pool, family.number, params, ty, closed)
@@ -237,7 +237,7 @@ fn finish_constructor<L: Ledger>(
     alloc: Global,
     env: &PlainEnv,
     start: usize,
-    family: &Family<'_>,
+    family: &NewFamily<'_>,
     only: bool,
     name: &Name,
     t: &Term,
@@ -286,13 +286,13 @@ fn argument_sorts<L: Ledger>(
     match sort {
         Sort::Typ(_) => {
             arguments_fit(
-                alloc, env, start, sort, telescope, t, left, MOST_DEEP, steps,
+                alloc, env, start, sort, telescope, t, left, MAX_DEPTH, steps,
             )?;
             Ok(true)
         }
         Sort::Prop => {
             if only {
-                do_arguments_fit(alloc, env, sort, telescope, t, left, MOST_DEEP, steps)
+                do_arguments_fit(alloc, env, sort, telescope, t, left, MAX_DEPTH, steps)
             } else {
                 Ok(false)
             }

@@ -24,24 +24,25 @@ use crate::telescopes::Telescope;
 use mt_env::Env;
 use mt_pool::Pool;
 use mt_resolver::{Scope, Table, resolve};
-use mt_term::{Entry, Fault, Halt, MOST_DEEP, Name, PlainEnv, Refusal, Term};
+use mt_term::{Entry, Fault, Halt, MAX_DEPTH, Name, PlainEnv, Refusal, Term};
 use mt_term_parser::Raw;
 use mt_text::{Ledger, Steps};
 use mt_unit_parser::{Groups, RawFunction, RawFunctions, RawType, RawTypes, Unit, UnitKind};
 use std::alloc::Global;
 
 /// The entry that an axiom, a definition, an inductive, coinductive, recursive or corecursive unit
-/// declares, each term taken by its names and checked by the kernel, under an allowance. Each charge
-/// is counted.
+/// declares, each term taken by its names and checked by the kernel, under an allowance. Each
+/// charge is counted.
 ///
-/// `env` is the environment as trees, `names` its table of names, and `held` the same environment in
-/// the pool. What the unit's parts take as known stands in `env` and `names` during the call alone.
+/// `env` is the environment as trees, `names` its table of names, and `held` the same environment
+/// in the pool. What the unit's parts take as known stands in `env` and `names` during the call
+/// alone.
 ///
 /// # Errors
 ///
 /// In the written order: `Taken`, `Unbound`, `NotASort`, `NotPositive`, `NotGuarded`,
-/// `BadElimination`, `KernelRefused`; `NotHere` for a unit that declares no entry; `Spent` where the
-/// allowance does not suffice.
+/// `BadElimination`, `KernelRefused`; `NotHere` for a unit that declares no entry; `Spent` where
+/// the allowance does not suffice.
 #[tactic(auto, using(crate::proofs::UnitRules::plain_rules))]
 pub fn declare_plain<L: Ledger>(
     alloc: Global,
@@ -268,7 +269,7 @@ fn declare_types<L: Ledger>(
                 0,
                 end,
                 left,
-                MOST_DEEP,
+                MAX_DEPTH,
                 steps,
             )
         }
@@ -360,7 +361,7 @@ fn declare_function<L: Ledger>(
         0,
         end,
         left,
-        MOST_DEEP,
+        MAX_DEPTH,
         steps,
     )
 }

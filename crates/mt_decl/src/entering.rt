@@ -4,7 +4,7 @@ ghost use Rattle.mt_decl.specs.Growing.{Grows};
 ghost use Rattle.mt_resolver.specs.TableOf.{AreNamesOf, Extends};
 ghost use Rattle.mt_term.specs.EntryOf.{declaration_of};
 ghost use Rattle.mt_term.specs.EnvironmentOf.{environment_of};
-ghost use Rattle.mt_term.specs.SoundEnvironment.{before, with_entry};
+ghost use Rattle.mt_calculus.specs.SoundEnvironment.{before, with_entry};
 
 use mt_resolver::Table;
 use mt_term::{Entry, OutOfMemory, PlainEnv};

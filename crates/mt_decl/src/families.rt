@@ -13,14 +13,14 @@ ghost use Rattle.mt_term.specs.EntryOf.{declaration_of};
 ghost use Rattle.mt_term.specs.EnvironmentOf.{environment_of};
 ghost use Rattle.mt_term.specs.TreeOf.{tree_of};
 
-use crate::constructing::{Family, declare_constructors};
+use crate::constructing::{NewFamily, declare_constructors};
 use crate::entering::{enter, leave};
 use crate::judging::judge_type;
-use crate::telescopes::{Telescope, count, generalized, result_sort};
+use crate::telescopes::{Telescope, count, generalization_over, result_sort};
 use mt_pool::Pool;
 use mt_resolver::{Scope, Table, resolve};
 use mt_term::{
-    Cons, Entry, Fault, Halt, MOST_DEEP, OutOfMemory, PlainEnv, Refusal, Sort, Term, copy,
+    Cons, Entry, Fault, Halt, MAX_DEPTH, OutOfMemory, PlainEnv, Refusal, Sort, Term, copy,
 };
 use mt_text::{Ledger, Steps};
 use mt_unit_parser::RawType;
@@ -44,7 +44,7 @@ pub fn declare_type<L: Ledger>(
     co: bool,
     ty: &RawType,
     left: &mut u64,
-    deep: usize,
+    depth_left: usize,
     steps: &mut Steps<L>,
 ) -> Result<Entry, Halt>
     requires names { AreNamesOf names.old env.old.entries }
@@ -57,7 +57,7 @@ pub fn declare_type<L: Ledger>(
 {
     let _left = *left;
     let arity = resolve(alloc, env, names, scope, &ty.arity)?;
-    let sort = match result_sort(&arity, MOST_DEEP)? {
+    let sort = match result_sort(&arity, MAX_DEPTH)? {
         Some(sort) => sort,
         None => {
             return Err(Halt::Refused(Fault {
@@ -66,9 +66,10 @@ pub fn declare_type<L: Ledger>(
             }));
         }
     };
-    let closed = generalized(alloc, params, arity, MOST_DEEP)?;
+    let closed = generalization_over(alloc, params, arity, MAX_DEPTH)?;
     declare_closed(
-        alloc, pool, env, names, start, scope, params, co, ty, closed, &sort, left, deep, steps,
+        alloc, pool, env, names, start, scope, params, co, ty, closed, &sort, left, depth_left,
+        steps,
     )
 }
 
@@ -87,7 +88,7 @@ fn declare_closed<L: Ledger>(
     closed: Term,
     sort: &Sort,
     left: &mut u64,
-    deep: usize,
+    depth_left: usize,
     steps: &mut Steps<L>,
 ) -> Result<Entry, Halt>
     requires names { AreNamesOf names.old env.old.entries }
@@ -101,7 +102,8 @@ fn declare_closed<L: Ledger>(
     let _left = *left;
     judge_type(alloc, env, start, &closed, left, steps)?;
     declare_family(
-        alloc, pool, env, names, start, scope, params, co, ty, closed, sort, left, deep, steps,
+        alloc, pool, env, names, start, scope, params, co, ty, closed, sort, left, depth_left,
+        steps,
     )
 }
 
@@ -120,7 +122,7 @@ fn declare_family<L: Ledger>(
     closed: Term,
     sort: &Sort,
     left: &mut u64,
-    deep: usize,
+    depth_left: usize,
     steps: &mut Steps<L>,
 ) -> Result<Entry, Halt>
     requires names { AreNamesOf names.old env.old.entries }
@@ -132,16 +134,16 @@ fn declare_family<L: Ledger>(
     ensures cost { steps.new + left.new ≡ steps.old + left.old }
 {
     let _left = *left;
-    let many = count(params, MOST_DEEP)?;
+    let many = count(params, MAX_DEPTH)?;
     let name = ty.name.clone()?;
-    let family = Family {
+    let family = NewFamily {
         number: env.entries.len(),
         params,
         ty: &closed,
         sort,
     };
     let (cons, large) = declare_inside(
-        alloc, pool, env, names, start, scope, &family, many, co, ty, left, deep, steps,
+        alloc, pool, env, names, start, scope, &family, many, co, ty, left, depth_left, steps,
     )?;
     Ok(Entry::Inductive {
         name,
@@ -162,12 +164,12 @@ fn declare_inside<L: Ledger>(
     names: &mut Table,
     start: usize,
     scope: &Scope<'_>,
-    family: &Family<'_>,
+    family: &NewFamily<'_>,
     many: usize,
     co: bool,
     ty: &RawType,
     left: &mut u64,
-    deep: usize,
+    depth_left: usize,
     steps: &mut Steps<L>,
 ) -> Result<(Cons, bool), Halt>
     requires names { AreNamesOf names.old env.old.entries }
@@ -181,7 +183,7 @@ fn declare_inside<L: Ledger>(
     let entries = env.entries.len();
     let known = names.len();
     let declared = declare_known(
-        alloc, pool, env, names, start, scope, family, many, co, ty, left, deep, steps,
+        alloc, pool, env, names, start, scope, family, many, co, ty, left, depth_left, steps,
     );
     leave(env, names, entries, known);
     declared
@@ -196,12 +198,12 @@ fn declare_known<L: Ledger>(
     names: &mut Table,
     start: usize,
     scope: &Scope<'_>,
-    family: &Family<'_>,
+    family: &NewFamily<'_>,
     many: usize,
     co: bool,
     ty: &RawType,
     left: &mut u64,
-    deep: usize,
+    depth_left: usize,
     steps: &mut Steps<L>,
 ) -> Result<(Cons, bool), Halt>
     requires names { AreNamesOf names.old env.old.entries }
@@ -218,14 +220,15 @@ fn declare_known<L: Ledger>(
     let only = ty.cons.len() == 1;
     let none = (Cons::new(alloc), true);
     declare_constructors(
-        alloc, pool, env, names, start, scope, family, only, &ty.cons, 0, none, left, deep, steps,
+        alloc, pool, env, names, start, scope, family, only, &ty.cons, 0, none, left, depth_left,
+        steps,
     )
 }
 
 // The type as an entry, without constructors.
 fn known_type(
     alloc: Global,
-    family: &Family<'_>,
+    family: &NewFamily<'_>,
     params: usize,
     co: bool,
     ty: &RawType,

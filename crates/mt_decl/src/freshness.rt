@@ -7,7 +7,7 @@ ghost use Rattle.mt_resolver.specs.TableOf.{AreNamesOf};
 ghost use Rattle.mt_term.specs.EnvironmentOf.{environment_of};
 
 use mt_resolver::{Scope, Table, place_in};
-use mt_term::{Fault, Halt, MOST_DEEP, Name, OutOfMemory, PlainEnv, Refusal, deeper};
+use mt_term::{Fault, Halt, MAX_DEPTH, Name, OutOfMemory, PlainEnv, Refusal, deeper};
 use mt_unit_parser::RawCons;
 
 /// A name is new: it names no entry and no constructor, and none of the earlier ones.
@@ -72,7 +72,7 @@ pub fn check_names(
     check_name(env, names, start, &Scope::Empty, name)?;
     let empty = Scope::Empty;
     let earlier = Scope::More(&*name, &empty);
-    check_constructors(env, names, start, &earlier, cons, 0, MOST_DEEP)
+    check_constructors(env, names, start, &earlier, cons, 0, MAX_DEPTH)
 }
 
 // The names of the constructors from a number on.
@@ -84,19 +84,19 @@ fn check_constructors(
     earlier: &Scope<'_>,
     cons: &RawCons,
     from: usize,
-    deep: usize,
+    depth_left: usize,
 ) -> Result<(), Halt>
     requires { AreNamesOf names.now env.now.entries }
     ensures { Resolves (λ z. z) (newness (environment_of env.now) start (names_of earlier.now) (names_in (drop from cons.now))) result }
 {
-    let deep = deeper(deep)?;
+    let depth_left = deeper(depth_left)?;
     match cons.get(from) {
         None => Ok(()),
         Some(con) => {
             check_name(env, names, start, earlier, &con.name)?;
             let next = from.checked_add(1).ok_or(OutOfMemory)?;
             let earlier = Scope::More(&con.name, &*earlier);
-            check_constructors(env, names, start, &earlier, cons, next, deep)
+            check_constructors(env, names, start, &earlier, cons, next, depth_left)
         }
     }
 }

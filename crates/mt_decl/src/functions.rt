@@ -19,12 +19,12 @@ ghost use Rattle.mt_term.specs.TreeOf.{tree_of};
 
 use crate::entering::{enter, leave};
 use crate::judging::{judge_term, judge_type};
-use crate::telescopes::{Telescope, abstracted, count, generalized};
+use crate::telescopes::{Telescope, abstraction_over, count, generalization_over};
 use mt_env::{Env, hold};
-use mt_guard::guarded;
+use mt_guard::is_entry_guarded;
 use mt_pool::Pool;
 use mt_resolver::{Scope, Table, place_in, resolve};
-use mt_term::{Entry, Fault, Halt, MOST_DEEP, Name, OutOfMemory, PlainEnv, Refusal, Term, copy};
+use mt_term::{Entry, Fault, Halt, MAX_DEPTH, Name, OutOfMemory, PlainEnv, Refusal, Term, copy};
 use mt_text::{Ledger, Steps};
 use mt_unit_parser::RawFunction;
 use std::alloc::Global;
@@ -63,7 +63,7 @@ pub fn declare_recursive<L: Ledger>(
     let _left = *left;
     let ty = resolve(alloc, env, names, scope, &function.ty)?;
     let place = place_of(start, scope, binders, on)?;
-    let closed = generalized(alloc, binders, ty, MOST_DEEP)?;
+    let closed = generalization_over(alloc, binders, ty, MAX_DEPTH)?;
     judge_type(alloc, env, start, &closed, left, steps)?;
     declare_function(
         alloc, pool, held, env, names, start, scope, binders, function, false, place, closed, left,
@@ -102,7 +102,7 @@ pub fn declare_corecursive<L: Ledger>(
 {
     let _left = *left;
     let ty = resolve(alloc, env, names, scope, &function.ty)?;
-    let closed = generalized(alloc, binders, ty, MOST_DEEP)?;
+    let closed = generalization_over(alloc, binders, ty, MAX_DEPTH)?;
     judge_type(alloc, env, start, &closed, left, steps)?;
     declare_function(
         alloc, pool, held, env, names, start, scope, binders, function, true, 0, closed, left,
@@ -121,7 +121,7 @@ fn place_of(
     requires { scopes.names_of scope.now ≡ names_of (hypotheses_of binders.now) }
     ensures { Resolves (λ r. r) (placed start (hypotheses_of binders.now) on.now) result }
 {
-    let many = count(binders, MOST_DEEP)?;
+    let many = count(binders, MAX_DEPTH)?;
     match place_in(scope, on.as_bytes())? {
         Some(i) => Ok(many.saturating_sub(i).saturating_sub(1)),
         None => Err(Halt::Refused(Fault {
@@ -160,7 +160,7 @@ fn declare_function<L: Ledger>(
     ensures cost { steps.new + left.new ≡ steps.old + left.old }
 {
     let _left = *left;
-    let many = count(binders, MOST_DEEP)?;
+    let many = count(binders, MAX_DEPTH)?;
     let name = function.name.clone()?;
     let entries = env.entries.len();
     let known = names.len();
@@ -243,7 +243,7 @@ fn body_within<L: Ledger>(
 {
     let _left = *left;
     let body = resolve(alloc, env, names, scope, &function.body)?;
-    let body = abstracted(alloc, binders, body, MOST_DEEP)?;
+    let body = abstraction_over(alloc, binders, body, MAX_DEPTH)?;
     check_body(
         alloc, pool, held, start, binders, function, co, place, closed, &body,
     )?;
@@ -292,7 +292,7 @@ fn check_body(
     let entry = Entry::Recursive {
         name: function.name.clone()?,
         co,
-        binders: count(binders, MOST_DEEP)?,
+        binders: count(binders, MAX_DEPTH)?,
         place,
         ty: copy(alloc, closed)?,
         body: copy(alloc, body)?,
@@ -315,7 +315,7 @@ fn check_guard(
     ensures guard { Resolves (λ z. z) (guard_said (environment_in pool.old held.now) start (declaration_of function.now)) result }
 {
     let entry = hold(alloc, pool, function)?;
-    if guarded(pool, held, held.len(), &entry)? {
+    if is_entry_guarded(pool, held, held.len(), &entry)? {
         return Ok(());
     }
     Err(Halt::Refused(Fault {

@@ -22,8 +22,8 @@ use mt_text::{Ledger, Steps};
 use mt_unit_parser::{Groups, RawFunction, RawType};
 use std::alloc::Global;
 
-/// What comes after the binders of a unit: an inductive or coinductive type, a recursive function on
-/// the binder of a name, or a corecursive function.
+/// What comes after the binders of a unit: an inductive or coinductive type, a recursive function
+/// on the binder of a name, or a corecursive function.
 #[derive(Clone, Copy)]
 pub enum End<'a> {
     Inductive(bool, &'a RawType),
@@ -50,7 +50,7 @@ pub fn with_groups<L: Ledger>(
     from: usize,
     end: End<'_>,
     left: &mut u64,
-    deep: usize,
+    depth_left: usize,
     steps: &mut Steps<L>,
 ) -> Result<Entry, Halt>
     requires names { AreNamesOf names.old env.old.entries }
@@ -64,10 +64,10 @@ pub fn with_groups<L: Ledger>(
     ensures cost { steps.new + left.new ≡ steps.old + left.old }
 {
     let _left = *left;
-    let deep = deeper(deep)?;
+    let depth_left = deeper(depth_left)?;
     match groups.get(from) {
         None => declare_end(
-            alloc, pool, held, env, names, start, scope, binders, end, left, deep, steps,
+            alloc, pool, held, env, names, start, scope, binders, end, left, depth_left, steps,
         ),
         Some(group) => {
             let next = from.checked_add(1).ok_or(OutOfMemory)?;
@@ -76,7 +76,7 @@ pub fn with_groups<L: Ledger>(
             let binders = Telescope::More(&group.name, &ty, &*binders);
             with_groups(
                 alloc, pool, held, env, names, start, &scope, &binders, groups, next, end, left,
-                deep, steps,
+                depth_left, steps,
             )
         }
     }
@@ -94,7 +94,7 @@ fn declare_end<L: Ledger>(
     binders: &Telescope<'_>,
     end: End<'_>,
     left: &mut u64,
-    deep: usize,
+    depth_left: usize,
     steps: &mut Steps<L>,
 ) -> Result<Entry, Halt>
     requires names { AreNamesOf names.old env.old.entries }
@@ -109,7 +109,7 @@ fn declare_end<L: Ledger>(
 {
     match end {
         End::Inductive(co, ty) => declare_type(
-            alloc, pool, env, names, start, scope, binders, co, ty, left, deep, steps,
+            alloc, pool, env, names, start, scope, binders, co, ty, left, depth_left, steps,
         ),
         End::Recursive(function, on) => declare_recursive(
             alloc, pool, held, env, names, start, scope, binders, function, on, left, steps,

@@ -15,55 +15,55 @@ pub enum Telescope<'a> {
 }
 
 /// A term abstracted over a telescope.
-pub fn abstracted(
+pub fn abstraction_over(
     alloc: Global,
     telescope: &Telescope<'_>,
     t: Term,
-    deep: usize,
+    depth_left: usize,
 ) -> Result<Term, OutOfMemory>
     ensures { IfOk result (λ u. tree_of u ≡ abstracted (hypotheses_of telescope.now) (tree_of t)) }
 {
-    let deep = deeper(deep)?;
+    let depth_left = deeper(depth_left)?;
     match telescope {
         Telescope::Empty => Ok(t),
         Telescope::More(name, ty, rest) => {
             let name = (*name).clone()?;
             let ty = Box::new(alloc, copy(alloc, ty)?)?;
             let body = Box::new(alloc, t)?;
-            abstracted(alloc, rest, Term::Lam(name, ty, body), deep)
+            abstraction_over(alloc, rest, Term::Lam(name, ty, body), depth_left)
         }
     }
 }
 
 /// The product over a telescope.
-pub fn generalized(
+pub fn generalization_over(
     alloc: Global,
     telescope: &Telescope<'_>,
     t: Term,
-    deep: usize,
+    depth_left: usize,
 ) -> Result<Term, OutOfMemory>
     ensures { IfOk result (λ u. tree_of u ≡ generalized (hypotheses_of telescope.now) (tree_of t)) }
 {
-    let deep = deeper(deep)?;
+    let depth_left = deeper(depth_left)?;
     match telescope {
         Telescope::Empty => Ok(t),
         Telescope::More(name, ty, rest) => {
             let name = (*name).clone()?;
             let ty = Box::new(alloc, copy(alloc, ty)?)?;
             let codomain = Box::new(alloc, t)?;
-            generalized(alloc, rest, Term::Prod(name, ty, codomain), deep)
+            generalization_over(alloc, rest, Term::Prod(name, ty, codomain), depth_left)
         }
     }
 }
 
 /// The sort that ends an arity, which is products and a sort as it stands.
-pub fn result_sort(t: &Term, deep: usize) -> Result<Option<Sort>, OutOfMemory>
+pub fn result_sort(t: &Term, depth_left: usize) -> Result<Option<Sort>, OutOfMemory>
     ensures { IfOk result (λ o. o ≡ result_sort (tree_of t.now)) }
 {
-    let deep = deeper(deep)?;
+    let depth_left = deeper(depth_left)?;
     match t {
         Term::Sort(s) => Ok(Some(s.clone()?)),
-        Term::Prod(_, _, b) => result_sort(b, deep),
+        Term::Prod(_, _, b) => result_sort(b, depth_left),
         Term::Var(_)
         | Term::Lam(_, _, _)
         | Term::App(_, _)
@@ -76,12 +76,12 @@ pub fn result_sort(t: &Term, deep: usize) -> Result<Option<Sort>, OutOfMemory>
 }
 
 /// How many names a telescope has.
-pub fn count(telescope: &Telescope<'_>, deep: usize) -> Result<usize, OutOfMemory>
+pub fn count(telescope: &Telescope<'_>, depth_left: usize) -> Result<usize, OutOfMemory>
     ensures { IfOk result (λ n. n ≡ length (hypotheses_of telescope.now)) }
 {
-    let deep = deeper(deep)?;
+    let depth_left = deeper(depth_left)?;
     match telescope {
         Telescope::Empty => Ok(0),
-        Telescope::More(_, _, rest) => count(rest, deep)?.checked_add(1).ok_or(OutOfMemory),
+        Telescope::More(_, _, rest) => count(rest, depth_left)?.checked_add(1).ok_or(OutOfMemory),
     }
 }

@@ -1,5 +1,6 @@
 -- Environments that are held in a pool, as contracts see them.
-use Rattle.std.specs.Prelude.{ℕ, ◌+◌, ◌≡◌, List, [], ◌∷◌, ◌++◌, map, length, take, Option, Some, None, slice_get}
+use Rattle.std.specs.Prelude.{ℕ, ◌+◌, ◌≡◌, List, [], ◌∷◌, ◌++◌, map, length, take, Option, Some}
+use Rattle.std.specs.Prelude.{None, slice_get}
 use Rattle.mt_term.specs.Trees.{Tree}
 use Rattle.mt_term.specs.Declarations.{Declaration, Environment}
 use Rattle.mt_term.specs.Naming.{Naming, naming, naming_entry}
@@ -27,7 +28,8 @@ declarations_in p es = map (declaration_in p) es
 
 -- the environment as the pool says it
 abbrev pub environment_in : List Tree → HeldEnvironment → Environment
-environment_in p e = record { entries = declarations_in p e.entries; names = e.graph.names; below = e.graph.below }
+environment_in p e =
+    record { entries = declarations_in p e.entries; names = e.graph.names; below = e.graph.below }
 
 -- the ids of all entries are held where there are n
 abbrev pub EntriesBelow : ℕ → List Held → Type 0
@@ -40,11 +42,14 @@ names_held es = naming (declarations_in [] es)
 
 -- with an entry after the others, which the pool says to be d
 abbrev pub IsAdded : HeldEnvironment → HeldEnvironment → List Tree → Declaration → Type 0
-IsAdded old new p d = (h : Held) × (new ≡ record old { entries = old.entries ++ h ∷ [] }) × HeldBelow (length p) h × (declaration_in p h ≡ d)
+IsAdded old new p d =
+    (h : Held) × (new ≡ record old { entries = old.entries ++ h ∷ [] }) × HeldBelow (length p) h
+    × (declaration_in p h ≡ d)
 
 -- as it stood after so many entries and constraints
 abbrev pub back_at : HeldEnvironment → ℕ → ℕ → HeldEnvironment
-back_at e entries constraints = record { entries = take entries e.entries; graph = as_at e.graph constraints }
+back_at e entries constraints =
+    record { entries = take entries e.entries; graph = as_at e.graph constraints }
 
 -- the type of an entry
 abbrev pub type_held : Held → TermId

@@ -3,7 +3,8 @@ use Rattle.std.specs.Prelude.{◌≡◌, [], ◌∷◌, Option, Some, None}
 use Rattle.mt_term.specs.Trees.{Tree, Const, Ind, Con}
 use Rattle.mt_term.specs.Naming.{Naming, find}
 use Rattle.mt_env.specs.declared.refs.Ref.{Ref}
-use Rattle.mt_env.specs.declared.refs.Ref.TheVariants.{Const as ConstRef, Ind as IndRef, Con as ConRef}
+use Rattle.mt_env.specs.declared.refs.Ref.TheVariants.{Const as ConstRef, Ind as IndRef}
+use Rattle.mt_env.specs.declared.refs.Ref.TheVariants.{Con as ConRef}
 
 -- the term that a reference says
 abbrev pub term_of : Ref → Tree

@@ -13,7 +13,8 @@ abbrev pub AreRefusedBy : EnvStop → Naming → Naming → Type 0
 AreRefusedBy Taken old new = Distinct (old ++ new) → ⊥
 AreRefusedBy OutOfMemory old new = Unit {0}
 
--- With the entry some name would stand twice: one of the entry's names is in use, or stands twice in the entry.
+-- With the entry some name would stand twice: one of the entry's names is in use, or stands twice
+-- in the entry.
 abbrev pub IsRefusedBy : EnvStop → List Held → Declaration → Type 0
 IsRefusedBy Taken es d = Distinct (naming (declarations_in [] es ++ d ∷ [])) → ⊥
 IsRefusedBy OutOfMemory es d = Unit {0}

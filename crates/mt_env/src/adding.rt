@@ -42,7 +42,7 @@ fn enter_constructors(
 {
     for k in 0..cons.len() {
         let Some(constructor) = cons.get(k) else {
-            return Err(EnvStop::OutOfMemory);
+            unreachable!()
         };
         enter_name(
             alloc,

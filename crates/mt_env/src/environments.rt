@@ -22,7 +22,8 @@ use std::alloc::{AllocFailed, Global};
 use std::clone::Clone;
 use std::marker::Model;
 
-/// Entries and a graph of universes, seen as the entries, oldest first, and the names and constraints of the graph.
+/// Entries and a graph of universes, seen as the entries, oldest first, and the names and
+/// constraints of the graph.
 #[derive(Drop)]
 pub struct Env {
     pub(crate) entries: Vec<Held>,
@@ -125,7 +126,8 @@ impl Env {
         }
     }
 
-    /// Adds an entry, which gets the next number. `Taken` comes exactly where one of its names is in use or stands twice in it.
+    /// Adds an entry, which gets the next number. `Taken` comes exactly where one of its names is
+    /// in use or stands twice in it.
     pub fn add(&mut self, alloc: Global, pool: &mut Pool, entry: &Entry) -> Result<usize, EnvStop>
         ensures kept { Kept pool.old pool.new }
         ensures number { IfOk result (λ n. n ≡ length self.old.entries) }

@@ -18,7 +18,7 @@ fn hold_constructors(alloc: Global, pool: &mut Pool, cons: &Cons) -> Result<Held
     let mut held = HeldCons::new(alloc);
     for k in 0..cons.len() {
         let Some(constructor) = cons.get(k) else {
-            return Err(OutOfMemory);
+            unreachable!()
         };
         let name = constructor.name.clone()?;
         let ty = pool.import(alloc, &constructor.ty)?;

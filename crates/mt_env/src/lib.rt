@@ -1,4 +1,5 @@
-//! Environments held in a pool: entries by number, by name and by mark, and the graph of their universes.
+//! Environments held in a pool: entries by number, by name and by mark, and the graph of their
+//! universes.
 #![tactic(auto)]
 
 mod adding;

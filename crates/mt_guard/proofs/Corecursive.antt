@@ -2,16 +2,16 @@
 use Rattle.std.proofs.Common.{Bool, true, ◌&&◌, ◌||◌, ◌≡◌, ◌⊎◌, ◌-◌, ℕ, zero, suc, List, [], ◌∷◌, Option, Some, None, slice_get, refl, sym, ap, ◌∙◌, subst, inl, inr}
 use Rattle.std.specs.Bool.{Decides}
 use Rattle.std.proofs.lemmas.Bool.Decides.{Decides-eqb, Decides-and}
-use Rattle.mt_term.proofs.AlikeLaws.{never, both}
+use Rattle.mt_calculus_laws.proofs.AlikeLaws.{never, both}
 use Rattle.mt_term.specs.Trees.{Tree, Trees, Arms, Bytes, Prod, Lam, App, Const, Con, Match, End, Item, NoArm, Arm}
-use Rattle.mt_term.specs.Substitution.{apps}
+use Rattle.mt_term.specs.Substitution.{apps, products}
 use Rattle.mt_term.specs.Declarations.{Constructor, Declaration, Inductive, Environment}
-use Rattle.mt_term.specs.Contraction.{products}
-use Rattle.mt_term.specs.Positivity.{AvoidsAll, RecursiveArgument}
-use Rattle.mt_term.specs.Guard.{UnderNoConstructor, absent, under_lam, under_match, under_con, ArmsUnderNoConstructor, no_arm_under, arm_under, UnderConstructor, past_types, at_parameter, at_other, at_recursive, at_call, CoinductiveResult, result_here, result_past, GuardedCorecursive}
+use Rattle.mt_calculus.specs.Positivity.{AvoidsAll, RecursiveArgument}
+use Rattle.mt_calculus.specs.Guard.{UnderNoConstructor, absent, under_lam, under_match, under_con, CoinductiveMotive, motive_type, motive_past, ArmsUnderNoConstructor, no_arm_under, arm_under, UnderConstructor, past_types, at_parameter, at_other, at_recursive, at_call, CoinductiveResult, result_here, result_past, GuardedCorecursive}
 use Rattle.mt_positivity.specs.Deciding.{avoids, is_recursive}
 use Rattle.mt_positivity.proofs.Deciding.{avoids-decides, recursive-decides, and_true}
-use Rattle.mt_guard.specs.Corecursive.{is_call, Judged, all_avoid, may_stand, fit, constructor_fits, entry_fits, stands, stand_arms, is_under, has_coinductive_result, is_co_guarded}
+use Rattle.mt_guard.specs.Corecursive.{is_call, Judged, all_avoid, may_stand, fit, constructor_fits, entry_fits, stands, stand_arms, is_coinductive_motive, is_under, has_coinductive_result, is_co_guarded}
+use Rattle.mt_guard.specs.Deciding.{is_on_type}
 use Rattle.mt_guard.proofs.Deciding.{or_cases, or_left, or_right, on_type_is, is_on_type_at}
 
 -- the arguments alone
@@ -37,6 +37,21 @@ call_is f _ s h e = never e
 is_call_apps : (f : ℕ) (t : Tree) (us : Trees) → is_call f t ≡ true → AvoidsAll f us → is_call f (apps t us) ≡ true
 is_call_apps f t End e h = e
 is_call_apps f t (Item a us) e h = is_call_apps f (App t a) us (and_true e ((avoids-decides f a).1 h.0)) h.1
+
+-- ---- motives
+
+motive_is : (E : Environment) (R : Tree) → is_coinductive_motive E R ≡ true → CoinductiveMotive E R
+motive_is E (Lam x A R) e = motive_past (motive_is E R e)
+motive_is E R e = motive_type (on_type_is E true R End e)
+
+-- a type on arguments is no abstraction
+type_motive : (E : Environment) (R : Tree) → is_on_type E true R ≡ true → is_coinductive_motive E R ≡ true
+type_motive E (Lam x A R) e = never e
+type_motive E R e = e
+
+is_motive : (E : Environment) {R : Tree} → CoinductiveMotive E R → is_coinductive_motive E R ≡ true
+is_motive E (motive_type {T = T} o) = type_motive E T (is_on_type_at E true o)
+is_motive E (motive_past m) = is_motive E m
 
 module _ (E : Environment) (f : ℕ) where
   -- each verdict is right
@@ -104,9 +119,10 @@ module _ (E : Environment) (f : ℕ) where
         let p = both (avoids f A) (avoids f b || stands E f b []) e in
         under_lam ((avoids-decides f A).0 p.0) (under_by b (λ h. stands_is b [] tt h) p.1)
     stands_is (Match n R c bs) [] r e =
-        let q = both (avoids f R && avoids f c) (stand_arms E f bs) e in
-        let p = both (avoids f R) (avoids f c) q.0 in
-        under_match ((avoids-decides f R).0 p.0) ((avoids-decides f c).0 p.1) (arms_is bs q.1)
+        let q = both (avoids f R && is_coinductive_motive E R && avoids f c) (stand_arms E f bs) e in
+        let p = both (avoids f R && is_coinductive_motive E R) (avoids f c) q.0 in
+        let m = both (avoids f R) (is_coinductive_motive E R) p.0 in
+        under_match ((avoids-decides f R).0 m.0) (motive_is E R m.1) ((avoids-decides f c).0 p.1) (arms_is bs q.1)
     stands_is (App g a) vs r e = stands_is g ((a, avoids f a || stands E f a []) ∷ vs) ((λ h. under_by a (λ i. stands_is a [] tt i) h), r) e
     stands_is (Con n k) vs r e = entry_is n k vs r (slice_get E.entries n) refl e
     stands_is _ vs r e = never e
@@ -134,8 +150,9 @@ module _ (E : Environment) (f : ℕ) where
     is_under_at : {t : Tree} → UnderNoConstructor E f t → is_under E f t ≡ true
     is_under_at (absent {t = t} a) = or_left (stands E f t []) ((avoids-decides f t).1 a)
     is_under_at (under_lam {x = x} {A = A} {b = b} a u) = or_right (avoids f (Lam x A b)) (and_true ((avoids-decides f A).1 a) (is_under_at u))
-    is_under_at (under_match {e = n} {R = R} {c = c} {bs = bs} r a u) =
-        or_right (avoids f (Match n R c bs)) (and_true (and_true ((avoids-decides f R).1 r) ((avoids-decides f c).1 a)) (stand_arms_at u))
+    is_under_at (under_match {e = n} {R = R} {c = c} {bs = bs} r m a u) =
+        or_right (avoids f (Match n R c bs))
+        (and_true (and_true (and_true ((avoids-decides f R).1 r) (is_motive E m)) ((avoids-decides f c).1 a)) (stand_arms_at u))
     is_under_at (under_con e k {p = p} {T = T} s h g u) =
         let v : entry_fits f e k (slice_get E.entries e) (judged s []) ≡ true =
         ap (λ o. entry_fits f e k o (judged s [])) h ∙ ap (λ c. constructor_fits f e p T c (judged s [])) g ∙ fit_at u in

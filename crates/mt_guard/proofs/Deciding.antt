@@ -2,16 +2,17 @@
 use Rattle.std.proofs.Common.{Bool, true, false, true≢false, not, ◌&&◌, ◌||◌, ◌≡◌, ◌⊎◌, ◌-◌, ℕ, zero, suc, nat_eq, nat_lt, if◌then◌else◌, List, [], ◌∷◌, Option, Some, None, slice_get, refl, sym, ap, ◌∙◌, subst, inl, inr, arith}
 use Rattle.std.specs.Bool.{Decides}
 use Rattle.std.proofs.lemmas.Bool.Decides.{Decides-eqb, Decides-not, Decides-and, Decides-ltb}
-use Rattle.mt_term.proofs.AlikeLaws.{never, both}
-use Rattle.mt_term.proofs.Images.{none_some, some_inj}
+use Rattle.mt_calculus_laws.proofs.AlikeLaws.{never, both}
+use Rattle.mt_term.proofs.Options.{none_some, some_inj}
 use Rattle.mt_term.specs.Trees.{Tree, Trees, Arms, Bytes, Var, Sort, Prod, Lam, App, Const, Ind, Con, Match, Meta, End, Item, NoArm, Arm}
-use Rattle.mt_term.specs.Substitution.{apps, join}
+use Rattle.mt_term.specs.Substitution.{apps, join, products}
 use Rattle.mt_term.specs.Spines.{item_at}
 use Rattle.mt_term.specs.Declarations.{Constructor, Declaration, Axiom, Definition, Inductive, Recursive, Environment, constructor_in}
-use Rattle.mt_term.specs.Contraction.{products, ItemAt, item_here, item_later}
-use Rattle.mt_term.specs.Guard.{Mark, Place, Smaller, Other, others, IsSmaller, smaller, IsOpened, at_place, at_smaller, MarkedBy, no_name, past_parameter, recursive_name, other_name, no_argument, BranchMarks, of_constructor, of_none, Guarded, guarded_call, guarded_cases, guarded_match, guarded_var, guarded_sort, guarded_prod, guarded_lam, guarded_app, guarded_const, guarded_ind, guarded_con, guarded_meta, GuardedAll, guarded_end, guarded_item, GuardedArms, guarded_no_arm, guarded_arm, GuardedBranches, guarded_no_branch, guarded_branch, OnType, on_type, GuardedUnder, past_binders, place_binder, other_binder, GuardedRecursive}
-use Rattle.mt_positivity.specs.Deciding.{is_recursive}
-use Rattle.mt_positivity.proofs.Deciding.{recursive-decides, and_true}
+use Rattle.mt_calculus.specs.Contraction.{ItemAt, item_here, item_later}
+use Rattle.mt_calculus.specs.Guard.{Mark, Place, Smaller, Other, others, IsSmaller, smaller, IsOpened, at_place, at_smaller, MarkedBy, no_name, past_parameter, recursive_name, other_name, no_argument, BranchMarks, of_constructor, of_none, Guarded, guarded_call, guarded_cases, guarded_match, guarded_var, guarded_sort, guarded_prod, guarded_lam, guarded_app, guarded_const, guarded_ind, guarded_con, guarded_meta, GuardedAll, guarded_end, guarded_item, GuardedArms, guarded_no_arm, guarded_arm, GuardedBranches, guarded_no_branch, guarded_branch, OnType, on_type, GuardedUnder, past_binders, place_binder, other_binder, GuardedRecursive}
+use Rattle.mt_calculus.specs.Positivity.{Avoids}
+use Rattle.mt_positivity.specs.Deciding.{avoids, is_recursive}
+use Rattle.mt_positivity.proofs.Deciding.{avoids-decides, recursive-decides, and_true}
 use Rattle.mt_guard.specs.Deciding.{is_smaller_mark, is_place_mark, is_smaller, is_opened, mark_by, marks, constructor_marks, entry_marks, branch_marks, is_smaller_item, guards, guards_all, guards_arms, guards_branches, is_of_kind, is_on_type, guards_under, is_guarded}
 
 -- tests
@@ -300,27 +301,31 @@ pub is_on_type_at : (E : Environment) (co : Bool) {t : Tree} → OnType E co t �
 is_on_type_at E co (on_type e {x = x} {p = p} {T = T} {cs = cs} {l = l} us h) = is_on_type_apps E co (Ind e) us (ap (is_of_kind co) h ∙ of_kind x co p T cs l)
 
 module _ (E : Environment) (f r : ℕ) where
-  binder_by : (n j : ℕ) (ms : List Mark) (x : Bytes) (A b : Tree) (t : Bool) → nat_eq j r ≡ t
+  binder_by : (n j : ℕ) (ms : List Mark) (x : Bytes) (A b : Tree) → Avoids f A → (t : Bool) → nat_eq j r ≡ t
       → (if t then is_on_type E false A && guards_under E f r n (suc j) (Place ∷ ms) b else guards_under E f r n (suc j) (Other ∷ ms) b) ≡ true
       → ((m : Mark) → guards_under E f r n (suc j) (m ∷ ms) b ≡ true → GuardedUnder E f r n (suc j) (m ∷ ms) b) → GuardedUnder E f r (suc n) j ms (Lam x A b)
-  binder_by n j ms x A b true i e go =
+  binder_by n j ms x A b a true i e go =
       let p = both (is_on_type E false A) (guards_under E f r n (suc j) (Place ∷ ms) b) e in
-      place_binder ((Decides-eqb j r).0 i) (on_type_is E false A End p.0) (go Place p.1)
-  binder_by n j ms x A b false i e go = other_binder (λ q. true≢false (sym ((Decides-eqb j r).1 q) ∙ i)) (go Other e)
+      place_binder ((Decides-eqb j r).0 i) a (on_type_is E false A End p.0) (go Place p.1)
+  binder_by n j ms x A b a false i e go = other_binder (λ q. true≢false (sym ((Decides-eqb j r).1 q) ∙ i)) a (go Other e)
 
   under_is : (n j : ℕ) (ms : List Mark) (b : Tree) → guards_under E f r n j ms b ≡ true → GuardedUnder E f r n j ms b
   under_is zero j ms b e = past_binders ((guards-decides E f r ms b).0 e)
-  under_is (suc n) j ms (Lam x A b) e = binder_by n j ms x A b (nat_eq j r) refl e (λ m. under_is n (suc j) (m ∷ ms) b)
+  under_is (suc n) j ms (Lam x A b) e =
+      let p = both (avoids f A) (if nat_eq j r then is_on_type E false A && guards_under E f r n (suc j) (Place ∷ ms) b else guards_under E f r n (suc j) (Other ∷ ms) b) e in
+      binder_by n j ms x A b ((avoids-decides f A).0 p.0) (nat_eq j r) refl p.1 (λ m. under_is n (suc j) (m ∷ ms) b)
   under_is (suc n) j ms _ e = never e
 
   is_under : {n j : ℕ} {ms : List Mark} {b : Tree} → GuardedUnder E f r n j ms b → guards_under E f r n j ms b ≡ true
   is_under (past_binders {ms = ms} {b = b} g) = (guards-decides E f r ms b).1 g
-  is_under (place_binder {n = n} {j = j} {ms = ms} {A = A} {b = b} h o u) =
-      when_true (is_on_type E false A && guards_under E f r n (suc j) (Place ∷ ms) b) (guards_under E f r n (suc j) (Other ∷ ms) b) ((Decides-eqb j r).1 h)
-      ∙ and_true (is_on_type_at E false o) (is_under u)
-  is_under (other_binder {n = n} {j = j} {ms = ms} {A = A} {b = b} h u) =
-      when_false (is_on_type E false A && guards_under E f r n (suc j) (Place ∷ ms) b) (guards_under E f r n (suc j) (Other ∷ ms) b) (not_so (nat_eq j r) (Decides-eqb j r) h)
-      ∙ is_under u
+  is_under (place_binder {n = n} {j = j} {ms = ms} {A = A} {b = b} h a o u) =
+      and_true ((avoids-decides f A).1 a)
+      (when_true (is_on_type E false A && guards_under E f r n (suc j) (Place ∷ ms) b) (guards_under E f r n (suc j) (Other ∷ ms) b) ((Decides-eqb j r).1 h)
+      ∙ and_true (is_on_type_at E false o) (is_under u))
+  is_under (other_binder {n = n} {j = j} {ms = ms} {A = A} {b = b} h a u) =
+      and_true ((avoids-decides f A).1 a)
+      (when_false (is_on_type E false A && guards_under E f r n (suc j) (Place ∷ ms) b) (guards_under E f r n (suc j) (Other ∷ ms) b) (not_so (nat_eq j r) (Decides-eqb j r) h)
+      ∙ is_under u)
 
 -- the test is true exactly where the function is guarded
 pub guarded-decides : (E : Environment) (f n r : ℕ) (b : Tree) → Decides (is_guarded E f n r b) (GuardedRecursive E f n r b)

@@ -1,6 +1,6 @@
 -- The test of an entry is the relation.
 use Rattle.std.proofs.Common.{ℕ, ◌≡◌, ◌∙◌, sym, Bool, true, false, IsTrue, ◌↔◌}
-use Rattle.mt_term.proofs.AlikeLaws.{never}
+use Rattle.mt_calculus_laws.proofs.AlikeLaws.{never}
 use Rattle.mt_term.specs.Declarations.{Declaration, Recursive, Environment}
 use Rattle.mt_guard.specs.Entries.{guards_entry, GuardedEntry}
 use Rattle.mt_guard.proofs.Deciding.{guarded-decides}

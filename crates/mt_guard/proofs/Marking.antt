@@ -1,13 +1,13 @@
 -- Marks of variables one by one, and of the variables of a branch.
 use Rattle.std.proofs.Common.{Bool, ℕ, zero, suc, ◌+◌, ◌-◌, ◌<◌, ◌≤◌, ◌≡◌, List, [], ◌∷◌, length, Option, Some, None, slice_get, refl, ap, ◌∙◌, arith}
 use Rattle.mt_term.specs.Trees.{Tree, Bytes, Prod}
-use Rattle.mt_term.specs.Guard.{Mark, Other, others}
+use Rattle.mt_calculus.specs.Guard.{Mark, Other, others}
 use Rattle.mt_term.specs.Declarations.{Declaration, Inductive, Constructor, Environment}
-use Rattle.mt_term.specs.Contraction.{products}
+use Rattle.mt_term.specs.Substitution.{products}
 use Rattle.mt_positivity.specs.Deciding.{is_recursive}
 use Rattle.mt_guard.specs.Deciding.{marks, mark_by, constructor_marks, entry_marks, branch_marks}
-use Rattle.mt_guard.specs.Lookups.{made_of, making_of, making_at}
-use Rattle.mt_guard.specs.Marking.{other_marks, marks_many, making_marks}
+use Rattle.mt_guard.specs.Lookups.{Making, made_of, making_of, making_at}
+use Rattle.mt_guard.specs.Marking.{other_marks, marks_many}
 
 other-later : (n k : ℕ) (ms : List Mark) → slice_get (other_marks n ms) (n + k) ≡ slice_get ms k
 other-later zero k ms = ap (slice_get ms) (omega arith)
@@ -36,6 +36,11 @@ marks-many e p indices l d C [] ms = refl
 marks-many e p indices (suc l) d (Prod y A C) (x ∷ xs) ms = marks-many e p indices l d C (x ∷ xs) ms
 marks-many e p indices zero d (Prod y A C) (x ∷ xs) ms = marks-many e p indices zero (suc d) C xs (mark_by (is_recursive e p indices d A) ∷ ms)
 marks-many e p indices l d _ (x ∷ xs) ms = others-many xs (Other ∷ ms)
+
+-- the marks of so many variables of a branch, where its constructor is looked up
+abbrev making_marks : ℕ → Option Making → ℕ → List Mark → List Mark
+making_marks e None n ms = other_marks n ms
+making_marks e (Some m) n ms = marks_many e m.params m.indices m.params zero m.constructor n ms
 
 constructor-making : (e p k : ℕ) (co : Bool) (T : Tree) (o : Option Constructor) (xs : List Bytes) (ms : List Mark) → constructor_marks e p T o xs ms ≡ making_marks e (made_of co p T o) (length xs) ms
 constructor-making e p k co T None xs ms = others-many xs ms

@@ -4,8 +4,8 @@ use Rattle.std.proofs.lemmas.Bool.Decides.{Decides-eqb}
 use Rattle.mt_term.specs.declared.universes.Sort.{Sort as AnySort}
 use Rattle.mt_term.specs.Trees.{Tree, Trees, Arms, Bytes, Var, Sort, Prod, Lam, App, Const, Ind, Con, Match, Meta}
 use Rattle.mt_term.specs.Declarations.{Environment}
-use Rattle.mt_term.specs.Guard.{Mark, Place, Other}
-use Rattle.mt_positivity.specs.Deciding.{is_recursive}
+use Rattle.mt_calculus.specs.Guard.{Mark, Place, Other}
+use Rattle.mt_positivity.specs.Deciding.{avoids, is_recursive}
 use Rattle.mt_guard.specs.Corecursive.{has_coinductive_result}
 use Rattle.mt_guard.specs.Deciding.{guards_under, is_on_type, mark_by}
 use Rattle.mt_guard.specs.Marking.{marks_many, other_marks}
@@ -86,17 +86,35 @@ module _ (e p indices d : ℕ) (ms : List Mark) where
   many-metavariable zero (suc n) m us h = refl
   many-metavariable (suc l) (suc n) m us h = refl
 
+-- binder j of the function: its type does not mention the function, and it stands at the place or elsewhere
 module _ (E : Environment) (f r : ℕ) (j : ℕ) (ms : List Mark) (x : Bytes) (A b : Tree) where
-  pub under-other : (n : ℕ) → 0 < n → (j ≡ r → ⊥) → guards_under E f r n j ms (Lam x A b) ≡ guards_under E f r (n - 1) (j + 1) (Other ∷ ms) b
-  under-other zero l h = absurd (omega (arith, l))
-  under-other (suc n) l h = by (nat_eq j r) refl
+  abbrev at_binder : ℕ → Bool → Bool
+  at_binder n t = if t then is_on_type E false A && guards_under E f r n (suc j) (Place ∷ ms) b else guards_under E f r n (suc j) (Other ∷ ms) b
+
+  avoiding : (n : ℕ) → avoids f A ≡ true → guards_under E f r (suc n) j ms (Lam x A b) ≡ at_binder n (nat_eq j r)
+  avoiding n a = ap (λ t. t && at_binder n (nat_eq j r)) a
+
+  pub under-mentioned : (n : ℕ) → 0 < n → avoids f A ≡ false → guards_under E f r n j ms (Lam x A b) ≡ false
+  under-mentioned zero l a = absurd (omega (arith, l))
+  under-mentioned (suc n) l a = ap (λ t. t && at_binder n (nat_eq j r)) a
+
+  pub under-other : (n : ℕ) → 0 < n → avoids f A ≡ true → (j ≡ r → ⊥) → guards_under E f r n j ms (Lam x A b) ≡ guards_under E f r (n - 1) (j + 1) (Other ∷ ms) b
+  under-other zero l a h = absurd (omega (arith, l))
+  under-other (suc n) l a h = avoiding n a ∙ by (nat_eq j r) refl
     where
-      by : (t : Bool) → nat_eq j r ≡ t → (if t then is_on_type E false A && guards_under E f r n (suc j) (Place ∷ ms) b else guards_under E f r n (suc j) (Other ∷ ms) b) ≡ guards_under E f r (suc n - 1) (j + 1) (Other ∷ ms) b
+      by : (t : Bool) → nat_eq j r ≡ t → at_binder n t ≡ guards_under E f r (suc n - 1) (j + 1) (Other ∷ ms) b
       by true e = absurd (h ((Decides-eqb j r).0 e))
       by false e =
           ap (λ (i : ℕ). guards_under E f r n i (Other ∷ ms) b) (next j)
           ∙ ap (λ (i : ℕ). guards_under E f r i (j + 1) (Other ∷ ms) b) (before n)
 
-pub ruleset step_rules = (result-past, under-other)
+  pub under-place : (n : ℕ) → 0 < n → avoids f A ≡ true → j ≡ r → guards_under E f r n j ms (Lam x A b) ≡ (is_on_type E false A && guards_under E f r (n - 1) (j + 1) (Place ∷ ms) b)
+  under-place zero l a h = absurd (omega (arith, l))
+  under-place (suc n) l a h =
+      avoiding n a ∙ ap (at_binder n) ((Decides-eqb j r).1 h)
+      ∙ ap (λ (i : ℕ). is_on_type E false A && guards_under E f r n i (Place ∷ ms) b) (next j)
+      ∙ ap (λ (i : ℕ). is_on_type E false A && guards_under E f r i (j + 1) (Place ∷ ms) b) (before n)
+
+pub ruleset step_rules = (result-past, under-mentioned, under-other, under-place)
 
 pub ruleset past_rules = (many-parameter, many-argument, many-variable, many-sort, many-abstraction, many-application, many-constant, many-type, many-constructor, many-match, many-metavariable)

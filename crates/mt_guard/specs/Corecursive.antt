@@ -2,7 +2,7 @@
 use Rattle.std.specs.Prelude.{ℕ, zero, suc, ◌-◌, Bool, true, false, ◌&&◌, ◌||◌, nat_eq, List, [], ◌∷◌, Option, Some, None, slice_get}
 use Rattle.mt_term.specs.Trees.{Tree, Arms, Prod, Lam, App, Const, Con, Match, NoArm, Arm}
 use Rattle.mt_term.specs.Declarations.{Constructor, Declaration, Inductive, Environment}
-use Rattle.mt_term.specs.Contraction.{products}
+use Rattle.mt_term.specs.Substitution.{products}
 use Rattle.mt_positivity.specs.Deciding.{avoids, is_recursive}
 use Rattle.mt_guard.specs.Deciding.{is_on_type}
 
@@ -40,12 +40,17 @@ abbrev pub entry_fits : ℕ → ℕ → ℕ → Option Declaration → List Judg
 entry_fits f e k (Some (Inductive x true p T cs l)) vs = constructor_fits f e p T (slice_get cs k) vs
 entry_fits f e k _ vs = false
 
+-- whether a motive is, as it stands, abstractions and then a coinductive type on arguments
+abbrev pub is_coinductive_motive : Environment → Tree → Bool
+is_coinductive_motive E (Lam x A R) = is_coinductive_motive E R
+is_coinductive_motive E T = is_on_type E true T
+
 module _ (E : Environment) (f : ℕ) where
   abbrev mutual
     -- whether a term on arguments, in which f may occur, is guarded under no constructor
     pub stands : Tree → List Judged → Bool
     stands (Lam x A b) [] = avoids f A && (avoids f b || stands b [])
-    stands (Match e R c bs) [] = avoids f R && avoids f c && stand_arms bs
+    stands (Match e R c bs) [] = avoids f R && is_coinductive_motive E R && avoids f c && stand_arms bs
     stands (App g a) vs = stands g ((a, avoids f a || stands a []) ∷ vs)
     stands (Con e k) vs = entry_fits f e k (slice_get E.entries e) vs
     stands _ vs = false

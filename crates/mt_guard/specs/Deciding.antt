@@ -2,10 +2,10 @@
 use Rattle.std.specs.Prelude.{ℕ, zero, suc, ◌-◌, Bool, true, false, not, ◌&&◌, ◌||◌, nat_eq, nat_lt, if◌then◌else◌, List, [], ◌∷◌, Option, Some, None, slice_get}
 use Rattle.mt_term.specs.Trees.{Tree, Trees, Arms, Bytes, Var, Sort, Prod, Lam, App, Const, Ind, Con, Match, Meta, End, Item, NoArm, Arm}
 use Rattle.mt_term.specs.Declarations.{Constructor, Declaration, Inductive, Environment}
-use Rattle.mt_term.specs.Contraction.{products}
+use Rattle.mt_term.specs.Substitution.{products}
 use Rattle.mt_term.specs.Spines.{item_at}
-use Rattle.mt_term.specs.Guard.{Mark, Place, Smaller, Other, others}
-use Rattle.mt_positivity.specs.Deciding.{is_recursive}
+use Rattle.mt_calculus.specs.Guard.{Mark, Place, Smaller, Other, others}
+use Rattle.mt_positivity.specs.Deciding.{avoids, is_recursive}
 
 abbrev pub is_smaller_mark : Option Mark → Bool
 is_smaller_mark (Some Smaller) = true
@@ -96,7 +96,9 @@ is_on_type E co _ = false
 abbrev pub guards_under : Environment → ℕ → ℕ → ℕ → ℕ → List Mark → Tree → Bool
 guards_under E f r zero j ms b = guards E f r ms b End
 guards_under E f r (suc n) j ms (Lam x A b) =
-    if nat_eq j r then is_on_type E false A && guards_under E f r n (suc j) (Place ∷ ms) b else guards_under E f r n (suc j) (Other ∷ ms) b
+    avoids f A
+    && (if nat_eq j r then is_on_type E false A && guards_under E f r n (suc j) (Place ∷ ms) b
+    else guards_under E f r n (suc j) (Other ∷ ms) b)
 guards_under E f r (suc n) j ms _ = false
 
 -- whether a recursive function, entry f with n binders and the recursive place r, is guarded

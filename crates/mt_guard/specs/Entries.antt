@@ -1,7 +1,7 @@
 -- The guard of an entry.
 use Rattle.std.specs.Prelude.{ℕ, Bool, true, false}
 use Rattle.mt_term.specs.Declarations.{Declaration, Recursive, Environment}
-use Rattle.mt_term.specs.Guard.{GuardedRecursive, GuardedCorecursive}
+use Rattle.mt_calculus.specs.Guard.{GuardedRecursive, GuardedCorecursive}
 use Rattle.mt_guard.specs.Corecursive.{is_co_guarded}
 use Rattle.mt_guard.specs.Deciding.{is_guarded}
 

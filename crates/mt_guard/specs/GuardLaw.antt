@@ -2,7 +2,7 @@
 use Rattle.std.specs.Prelude.{◌↔◌, ℕ, IsTrue}
 use Rattle.mt_term.specs.Trees.{Tree}
 use Rattle.mt_term.specs.Declarations.{Environment}
-use Rattle.mt_term.specs.Guard.{GuardedRecursive, GuardedCorecursive}
+use Rattle.mt_calculus.specs.Guard.{GuardedRecursive, GuardedCorecursive}
 use Rattle.mt_guard.specs.Deciding.{is_guarded}
 use Rattle.mt_guard.specs.Corecursive.{is_co_guarded}
 

@@ -1,7 +1,7 @@
 -- The constructors of an environment, beside what the guard takes from their types.
 use Rattle.std.specs.Prelude.{ℕ, ◌-◌, ◌<◌, Bool, List, Option, Some, None, slice_get}
 use Rattle.mt_term.specs.Trees.{Tree}
-use Rattle.mt_term.specs.Contraction.{products}
+use Rattle.mt_term.specs.Substitution.{products}
 use Rattle.mt_term.specs.Declarations.{Constructor, Declaration, Inductive, Environment}
 use Rattle.mt_pool.specs.Region.{tree_at}
 use Rattle.mt_guard.specs.declared.constructors.Maker.{Maker}

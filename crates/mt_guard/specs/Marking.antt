@@ -2,11 +2,10 @@
 use Rattle.std.specs.Prelude.{ℕ, zero, suc, ◌<◌, Bool, if◌then◌else◌, List, [], ◌∷◌, Option, Some, None}
 use Rattle.mt_term.specs.Trees.{Tree, Trees, Arms, Prod, End, Item}
 use Rattle.mt_term.specs.Declarations.{Environment}
-use Rattle.mt_term.specs.Guard.{Mark, Place, Smaller, Other}
+use Rattle.mt_calculus.specs.Guard.{Mark, Place, Smaller, Other}
 use Rattle.mt_pool.specs.Region.{tree_at}
 use Rattle.mt_positivity.specs.Deciding.{is_recursive}
 use Rattle.mt_guard.specs.Deciding.{guards_arms, guards_branches, is_opened, mark_by}
-use Rattle.mt_guard.specs.Lookups.{Making}
 use Rattle.mt_guard.specs.declared.marks.Mark.{Mark as HeldMark}
 use Rattle.mt_guard.specs.declared.marks.Mark.TheVariants.{Place as HeldPlace, Smaller as HeldSmaller, Other as HeldOther}
 use Rattle.mt_guard.specs.declared.marks.Marks.{Marks, Empty, More', Others'}
@@ -47,11 +46,6 @@ args_in p (MoreArgs a q rest) = Item (tree_at p a) (args_in p rest)
 abbrev pub ArgsBelow : ℕ → Args → Type 0
 ArgsBelow n NoMore = Unit {0}
 ArgsBelow n (MoreArgs a q rest) = (a.at < n) × ArgsBelow n rest
-
--- the marks of so many variables of a branch, where its constructor is looked up
-abbrev pub making_marks : ℕ → Option Making → ℕ → List Mark → List Mark
-making_marks e None n ms = other_marks n ms
-making_marks e (Some m) n ms = marks_many e m.params m.indices m.params zero m.constructor n ms
 
 -- whether the branches of a match on a term are guarded
 abbrev pub guards_match : Environment → ℕ → ℕ → ℕ → List Mark → Tree → Arms → Bool

@@ -11,7 +11,7 @@ ghost use Rattle.mt_term.specs.Trees.{Tree};
 use mt_env::Env;
 use mt_pool::{Held, HeldCons, Node, Pool, TermId};
 use mt_positivity::products;
-use mt_term::{MOST_DEEP, OutOfMemory, deeper};
+use mt_term::{MAX_DEPTH, OutOfMemory, deeper};
 
 /// A constructor of a type, which has so many parameters and indices, and may be coinductive.
 #[derive(Clone, Copy)]
@@ -51,7 +51,7 @@ fn maker_of(
 {
     match cons.get(k) {
         Some(constructor) => {
-            let indices = products(pool, ty, MOST_DEEP)?.saturating_sub(params);
+            let indices = products(pool, ty, MAX_DEPTH)?.saturating_sub(params);
             Ok(Some(Maker {
                 co,
                 params,
@@ -117,15 +117,15 @@ pub fn is_on_type(
     env: &Env,
     coinductive: bool,
     t: TermId,
-    deep: usize,
+    depth_left: usize,
 ) -> Result<bool, OutOfMemory>
     requires { t.at < length pool.now }
     ensures { IfOk result (λ b. b ≡ is_on_type (environment_in pool.now env.now) coinductive (tree_at pool.now t)) }
 {
-    let deep = deeper(deep)?;
+    let depth_left = deeper(depth_left)?;
     match pool.node(t) {
         Node::Ind(e) => Ok(is_of_kind(env, coinductive, *e)),
-        Node::App(g, _) => is_on_type(pool, env, coinductive, *g, deep),
+        Node::App(g, _) => is_on_type(pool, env, coinductive, *g, depth_left),
         Node::Var(_)
         | Node::Sort(_)
         | Node::Prod(_, _, _)

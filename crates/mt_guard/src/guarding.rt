@@ -10,13 +10,14 @@ use mt_env::Env;
 use mt_pool::{Held, Pool};
 use mt_term::OutOfMemory;
 
-/// Whether a recursive or corecursive function, entry `n`, is guarded, where the environment holds all entries before it. Another entry is none.
+/// Whether a recursive or corecursive function, entry `n`, is guarded, where the environment holds
+/// all entries before it. Another entry is none.
 ///
 /// # Errors
 ///
 /// `OutOfMemory` where memory is wanting, or a term is deeper than the bound.
 #[tactic(auto, using(crate::proofs::Entries::entry_decides))]
-pub fn guarded(pool: &Pool, env: &Env, n: usize, entry: &Held) -> Result<bool, OutOfMemory>
+pub fn is_entry_guarded(pool: &Pool, env: &Env, n: usize, entry: &Held) -> Result<bool, OutOfMemory>
     requires entries { EntriesBelow (length pool.now) env.now.entries }
     requires held { HeldBelow (length pool.now) entry.now }
     ensures test { IfOk result (λ b. b ≡ guards_entry (environment_in pool.now env.now) n (declaration_in pool.now entry.now)) }

@@ -8,7 +8,8 @@ ghost use Rattle.mt_term.specs.Spines.{item_at};
 use mt_pool::{Node, Pool, TermId};
 use mt_term::{OutOfMemory, deeper};
 
-/// What is known of a variable: it is the one at the recursive place, or smaller than that one, or neither.
+/// What is known of a variable: it is the one at the recursive place, or smaller than that one, or
+/// neither.
 #[derive(Clone, Copy)]
 pub enum Mark {
     Place,
@@ -45,23 +46,23 @@ pub fn mark_by(recursive: bool) -> Mark
 
 // The mark of a variable.
 #[tactic(auto, using(crate::proofs::Marking::mark_rules))]
-fn mark_at(marks: &Marks<'_>, index: usize, deep: usize) -> Result<Option<Mark>, OutOfMemory>
+fn mark_at(marks: &Marks<'_>, index: usize, depth_left: usize) -> Result<Option<Mark>, OutOfMemory>
     ensures { IfOk result (λ o. marked o ≡ slice_get (marks_of marks.now) index) }
 {
-    let deep = deeper(deep)?;
+    let depth_left = deeper(depth_left)?;
     match marks {
         Marks::Empty => Ok(None),
         Marks::More(mark, rest) => {
             if index == 0 {
                 return Ok(Some(*mark));
             }
-            mark_at(rest, index - 1, deep)
+            mark_at(rest, index - 1, depth_left)
         }
         Marks::Others(many, rest) => {
             if index < *many {
                 return Ok(Some(Mark::Other));
             }
-            mark_at(rest, index - *many, deep)
+            mark_at(rest, index - *many, depth_left)
         }
     }
 }
@@ -72,18 +73,18 @@ pub fn is_smaller(
     pool: &Pool,
     marks: &Marks<'_>,
     t: TermId,
-    deep: usize,
+    depth_left: usize,
 ) -> Result<bool, OutOfMemory>
     requires { t.at < length pool.now }
     ensures { IfOk result (λ b. b ≡ is_smaller (marks_of marks.now) (tree_at pool.now t)) }
 {
-    let deep = deeper(deep)?;
+    let depth_left = deeper(depth_left)?;
     match pool.node(t) {
-        Node::Var(i) => match mark_at(marks, *i, deep)? {
+        Node::Var(i) => match mark_at(marks, *i, depth_left)? {
             Some(Mark::Smaller) => Ok(true),
             Some(Mark::Place) | Some(Mark::Other) | None => Ok(false),
         },
-        Node::App(g, _) => is_smaller(pool, marks, *g, deep),
+        Node::App(g, _) => is_smaller(pool, marks, *g, depth_left),
         Node::Sort(_)
         | Node::Prod(_, _, _)
         | Node::Lam(_, _, _)
@@ -101,13 +102,13 @@ pub fn is_opened(
     pool: &Pool,
     marks: &Marks<'_>,
     t: TermId,
-    deep: usize,
+    depth_left: usize,
 ) -> Result<bool, OutOfMemory>
     requires { t.at < length pool.now }
     ensures { IfOk result (λ b. b ≡ is_opened (marks_of marks.now) (tree_at pool.now t)) }
 {
     match pool.node(t) {
-        Node::Var(i) => match mark_at(marks, *i, deep)? {
+        Node::Var(i) => match mark_at(marks, *i, depth_left)? {
             Some(Mark::Place) | Some(Mark::Smaller) => Ok(true),
             Some(Mark::Other) | None => Ok(false),
         },
@@ -119,7 +120,7 @@ pub fn is_opened(
         | Node::Ind(_)
         | Node::Con(_, _)
         | Node::Match(_, _, _, _)
-        | Node::Meta(_, _) => is_smaller(pool, marks, t, deep),
+        | Node::Meta(_, _) => is_smaller(pool, marks, t, depth_left),
     }
 }
 
@@ -129,19 +130,19 @@ pub fn is_smaller_at(
     marks: &Marks<'_>,
     args: &Args<'_>,
     place: usize,
-    deep: usize,
+    depth_left: usize,
 ) -> Result<bool, OutOfMemory>
     requires { ArgsBelow (length pool.now) args.now }
     ensures { IfOk result (λ b. b ≡ is_smaller_item (marks_of marks.now) (item_at (args_in pool.now args.now) place)) }
 {
-    let deep = deeper(deep)?;
+    let depth_left = deeper(depth_left)?;
     match args {
         Args::End => Ok(false),
         Args::More(a, rest) => {
             if place == 0 {
-                return is_smaller(pool, marks, *a, deep);
+                return is_smaller(pool, marks, *a, depth_left);
             }
-            is_smaller_at(pool, marks, rest, place - 1, deep)
+            is_smaller_at(pool, marks, rest, place - 1, depth_left)
         }
     }
 }

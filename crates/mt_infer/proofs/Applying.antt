@@ -2,13 +2,14 @@
 use Rattle.std.proofs.Common.{ℕ, suc, ◌≡◌, ◌-◌, ◌<◌, ◌≤◌, List, ap, refl, ◌∙◌, arith}
 use Rattle.mt_term.specs.Trees.{Bytes, Tree, App}
 use Rattle.mt_term.specs.declared.modes.Mode.TheVariants.{AtMost}
-use Rattle.mt_term.specs.Declarations.{Hypothesis, Environment, Reason}
-use Rattle.mt_term.specs.Charges.{Outcome, Charged, Done, Refused, Spent, give, and_then, rest}
+use Rattle.mt_term.specs.Declarations.{Hypothesis, Environment}
+use Rattle.mt_term.specs.Reasons.{Reason}
+use Rattle.mt_rules.specs.Charges.{Outcome, Charged, Done, Refused, Spent, give, and_then, rest}
 use Rattle.mt_term.specs.Stores.{Store}
-use Rattle.mt_term.specs.Inference.{Product, infer, product_of, agreement}
-use Rattle.mt_term.proofs.Charged.{then-rest}
-use Rattle.mt_term.proofs.InferenceLaws.{infer-rest}
-use Rattle.mt_term.proofs.InferenceRules.{infer-out, product_of-rest, agreement-rest, infer-app-fun_spent, infer-app-fun_refused, infer-app-fun_within}
+use Rattle.mt_rules.specs.Inference.{Product, infer, product_of, agreement}
+use Rattle.mt_rules_laws.proofs.Charged.{then-rest}
+use Rattle.mt_rules_laws.proofs.InferenceLaws.{infer-rest}
+use Rattle.mt_rules_laws.proofs.InferenceRules.{infer-out, product_of-rest, agreement-rest, infer-app-fun_spent, infer-app-fun_refused, infer-app-fun_within}
 use Rattle.mt_infer.specs.Fitting.{applied, instance}
 
 abbrev parts : Bytes → Tree → Tree → Product

@@ -3,16 +3,17 @@ use Rattle.std.proofs.Common.{ℕ, suc, ◌≡◌, ◌+◌, ◌≤◌, List, [],
 use Rattle.mt_term.specs.Trees.{Bytes, Tree, Trees, Arms, Var, Sort, Prod, Lam, App, Const, Ind, Con, Match, Meta, End, NoArm, Arm}
 use Rattle.mt_term.specs.declared.universes.Sort.{Sort as AnySort}
 use Rattle.mt_term.specs.declared.modes.Mode.TheVariants.{AtMost}
-use Rattle.mt_term.specs.Substitution.{apps, count, lift}
-use Rattle.mt_term.specs.Declarations.{Constructor, Hypothesis, Environment, Reason, BadElimination}
-use Rattle.mt_term.specs.Charges.{Outcome, Charged, Done, Refused, Spent, and_then, rest}
-use Rattle.mt_term.specs.Contraction.{products}
+use Rattle.mt_term.specs.Substitution.{apps, count, products}
+use Rattle.mt_term.specs.Lifting.{lift}
+use Rattle.mt_term.specs.Declarations.{Constructor, Hypothesis, Environment}
+use Rattle.mt_term.specs.Reasons.{Reason, BadElimination}
+use Rattle.mt_rules.specs.Charges.{Outcome, Charged, Done, Refused, Spent, and_then, rest}
 use Rattle.mt_term.specs.Spines.{as_ind, at_args}
 use Rattle.mt_term.specs.Stores.{Store}
-use Rattle.mt_term.specs.Inference.{Family, constructor_type, eliminable, infer, agreement, infer_arms, branches_fit, branch_context, branch_type, return_at}
-use Rattle.mt_term.proofs.Charged.{then-rest, then-then}
-use Rattle.mt_term.proofs.InferenceLaws.{infer-rest}
-use Rattle.mt_term.proofs.InferenceRules.{agreement-rest, infer_arms-rest, infer_arms-none, infer_arms-end, infer_arms-arm-own_none, infer_arms-arm-goal_none}
+use Rattle.mt_rules.specs.Inference.{Family, constructor_type, eliminable, infer, agreement, infer_arms, branches_fit, branch_context, branch_type, return_at}
+use Rattle.mt_rules_laws.proofs.Charged.{then-rest, then-then}
+use Rattle.mt_rules_laws.proofs.InferenceLaws.{infer-rest}
+use Rattle.mt_rules_laws.proofs.InferenceRules.{agreement-rest, infer_arms-rest, infer_arms-none, infer_arms-end, infer_arms-arm-own_none, infer_arms-arm-goal_none}
 use Rattle.mt_pool.specs.Region.{trees_at, ids_of, AllBelow}
 use Rattle.mt_infer.specs.declared.families.Family.{Family as HeldFamily}
 use Rattle.mt_infer.specs.Families.{family_held, FamilyBelow}

@@ -2,10 +2,10 @@
 use Rattle.std.proofs.Common.{ℕ, suc, ◌+◌, ◌≡◌, List, [], ◌∷◌, reverse, Option, Some, None, slice_get, add-one, refl, ap, sym, ◌∙◌}
 use mathlib.Core.List.{reverse_aux}
 use Rattle.mt_term.specs.Trees.{Tree}
-use Rattle.mt_term.specs.Inference.{lifted_type, type_at}
-use Rattle.mt_term.specs.Substitution.{lift}
+use Rattle.mt_rules.specs.Inference.{lifted_type, type_at}
+use Rattle.mt_term.specs.Lifting.{lift}
 use Rattle.mt_term.specs.Declarations.{Hypothesis}
-use Rattle.mt_term.proofs.InferenceLaws.{infer-rest}
+use Rattle.mt_rules_laws.proofs.InferenceLaws.{infer-rest}
 use Rattle.mt_pool.specs.declared.contexts.HeldHyp.{HeldHyp}
 use Rattle.mt_pool.specs.HeldOf.{hypothesis_in, hypotheses_in}
 use Rattle.mt_infer.specs.Scopes.{held_type, inside}

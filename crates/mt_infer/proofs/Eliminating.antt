@@ -1,15 +1,16 @@
--- The type of a return function against an arity, by the products that it is.
+-- The type of a motive against an arity, by the products that it is.
 use Rattle.std.proofs.Common.{ℕ, ◌≡◌, ◌≤◌, List, ◌∷◌, suc, Bool, true, false, refl, ap, ◌∙◌, arith}
 use Rattle.mt_term.specs.Trees.{Bytes, Tree, Var, Sort, Prod, App}
 use Rattle.mt_term.specs.Substitution.{ren}
 use Rattle.mt_term.specs.declared.universes.Sort.{Sort as AnySort}
 use Rattle.mt_term.specs.declared.modes.Mode.TheVariants.{Equal}
-use Rattle.mt_term.specs.Declarations.{Hypothesis, Environment, Reason, BadElimination}
-use Rattle.mt_term.specs.Charges.{Outcome, Charged, Done, Refused, Spent, give, ◌>>=◌, and_then, rest}
+use Rattle.mt_term.specs.Declarations.{Hypothesis, Environment}
+use Rattle.mt_term.specs.Reasons.{Reason, BadElimination}
+use Rattle.mt_rules.specs.Charges.{Outcome, Charged, Done, Refused, Spent, give, ◌>>=◌, and_then, rest}
 use Rattle.mt_term.specs.Stores.{Store}
-use Rattle.mt_term.specs.Inference.{Product, as_product, as_sort, agreement, checked, may_eliminate, eliminating}
-use Rattle.mt_term.proofs.Charged.{then-rest}
-use Rattle.mt_term.proofs.InferenceRules.{as_product-rest, as_sort-rest, agreement-rest, eliminating-rest, eliminating-var, eliminating-lam, eliminating-app, eliminating-const, eliminating-ind, eliminating-con, eliminating-match, eliminating-meta}
+use Rattle.mt_rules.specs.Inference.{Product, as_product, as_sort, agreement, checked, may_eliminate, eliminating}
+use Rattle.mt_rules_laws.proofs.Charged.{then-rest}
+use Rattle.mt_rules_laws.proofs.InferenceRules.{as_product-rest, as_sort-rest, agreement-rest, eliminating-rest, eliminating-var, eliminating-lam, eliminating-app, eliminating-const, eliminating-ind, eliminating-con, eliminating-match, eliminating-meta}
 use Rattle.mt_infer.specs.Fitting.{eliminating_over, on_newest, product_over}
 use Rattle.mt_infer.proofs.Lists.{raise_one}
 

@@ -4,16 +4,17 @@ use Rattle.std.specs.Prelude.{slice_get}
 use Rattle.mt_term.specs.Trees.{Tree, Trees, Var, Sort, Prod, Lam, App, Const, Ind, Con, Match, Meta}
 use Rattle.mt_term.specs.declared.universes.Sort.{Sort as AnySort}
 use Rattle.mt_term.specs.declared.modes.Mode.{Mode}
-use Rattle.mt_term.specs.Declarations.{Hypothesis, Environment, Mismatch, NotASort, NotAFunction, Unbound, constructor_at}
-use Rattle.mt_term.specs.Charges.{Done, Refused, rest}
+use Rattle.mt_term.specs.Declarations.{Hypothesis, Environment, constructor_at}
+use Rattle.mt_term.specs.Reasons.{Mismatch, NotASort, NotAFunction, Unbound}
+use Rattle.mt_rules.specs.Charges.{Done, Refused, rest}
 use Rattle.mt_term.specs.Stores.{Declared, Store}
 use Rattle.mt_term.specs.Substitution.{beyond}
-use Rattle.mt_term.specs.Universes.{sort_above}
-use Rattle.mt_term.specs.WeakHead.{whd}
-use Rattle.mt_term.specs.Comparison.{convert}
-use Rattle.mt_term.specs.Inference.{Product, a_sort, a_product, type_at, constant_type, inductive_type, constructor_type, infer, as_sort, as_product, agreement, oldest}
-use Rattle.mt_term.proofs.InferenceLaws.{infer-rest}
-use Rattle.mt_term.proofs.InferenceRules.{infer-out, as_sort_rules, as_product_rules, agreement_rules, as_sort-done, as_product-done, agreement-done, sort_of-rest, product_of-rest, type_head-rest, infer-var_none, infer-var_done, infer-sort_none, infer-sort_done, infer-const_none, infer-const_done, infer-ind_none, infer-ind_done, infer-con_none, infer-con_done, infer-prod-dom_within, infer-lam-type_within, infer-app-fun_within, infer-match-matched_within, infer-meta-meta_none, infer-meta-terms_within, infer_terms-rest}
+use Rattle.mt_term.specs.UniverseForms.{sort_above}
+use Rattle.mt_rules.specs.WeakHead.{whd}
+use Rattle.mt_rules.specs.Comparison.{convert}
+use Rattle.mt_rules.specs.Inference.{Product, a_sort, a_product, type_at, constant_type, inductive_type, constructor_type, infer, as_sort, as_product, agreement, oldest}
+use Rattle.mt_rules_laws.proofs.InferenceLaws.{infer-rest}
+use Rattle.mt_rules_laws.proofs.InferenceRules.{infer-out, as_sort_rules, as_product_rules, agreement_rules, as_sort-done, as_product-done, agreement-done, sort_of-rest, product_of-rest, type_head-rest, infer-var_none, infer-var_done, infer-sort_none, infer-sort_done, infer-const_none, infer-const_done, infer-ind_none, infer-ind_done, infer-con_none, infer-con_done, infer-prod-dom_within, infer-lam-type_within, infer-app-fun_within, infer-match-matched_within, infer-meta-meta_none, infer-meta-terms_within, infer_terms-rest}
 use Rattle.mt_infer.specs.Forms.{sort_in, product_in}
 
 -- a weak head that is a sort, and one that is none

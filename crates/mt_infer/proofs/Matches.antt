@@ -2,13 +2,14 @@
 use Rattle.std.proofs.Common.{ℕ, zero, length, ◌≡◌, ◌-◌, ◌<◌, ◌≤◌, List, Option, Some, None, Bool, true, false, suc, refl, ap, ◌∙◌, arith}
 use Rattle.mt_term.specs.Trees.{Tree, Arms, Match}
 use Rattle.mt_term.specs.declared.universes.Sort.{Sort as AnySort}
-use Rattle.mt_term.specs.Declarations.{Hypothesis, Environment, Reason, BadElimination}
-use Rattle.mt_term.specs.Charges.{Outcome, Charged, Done, Refused, Spent, give, and_then, rest}
+use Rattle.mt_term.specs.Declarations.{Hypothesis, Environment}
+use Rattle.mt_term.specs.Reasons.{Reason, BadElimination}
+use Rattle.mt_rules.specs.Charges.{Outcome, Charged, Done, Refused, Spent, give, and_then, rest}
 use Rattle.mt_term.specs.Stores.{Store}
-use Rattle.mt_term.specs.Inference.{Family, only, as_family, checked, eliminable, infer, elimination, eliminating, type_head, infer_arms}
-use Rattle.mt_term.proofs.Charged.{then-rest}
-use Rattle.mt_term.proofs.InferenceLaws.{infer-rest, elimination-rest}
-use Rattle.mt_term.proofs.InferenceRules.{eliminating-rest, type_head-rest, infer_arms-rest, infer-out, elimination-type_spent, elimination-type_refused, elimination-type_within, elimination-done, infer-match-matched_spent, infer-match-matched_refused, infer-match-matched_within}
+use Rattle.mt_rules.specs.Inference.{Family, only, as_family, checked, eliminable, infer, elimination, eliminating, type_head, infer_arms}
+use Rattle.mt_rules_laws.proofs.Charged.{then-rest}
+use Rattle.mt_rules_laws.proofs.InferenceLaws.{infer-rest, elimination-rest}
+use Rattle.mt_rules_laws.proofs.InferenceRules.{eliminating-rest, type_head-rest, infer_arms-rest, infer-out, elimination-type_spent, elimination-type_refused, elimination-type_within, elimination-done, infer-match-matched_spent, infer-match-matched_refused, infer-match-matched_within}
 use Rattle.mt_pool.specs.Region.{tree_at, Kept}
 use Rattle.mt_pool.proofs.Region.{tree-kept}
 use Rattle.mt_infer.specs.declared.families.Family.{Family as HeldFamily}
@@ -28,7 +29,7 @@ checked_rest : (b : Bool) (l : ℕ) → rest (checked b l) ≤ l
 checked_rest true l = omega arith
 checked_rest false l = omega arith
 
--- the sort that a return function answers in
+-- the sort that a motive answers in
 module _ (E : Environment) (S : Store) (Γ : List Hypothesis) (p : List Tree) (f : HeldFamily) (r t : Tree) (n l : ℕ) where
   pub elimination_done : infer E S Γ r n ≡ Done t l → elimination E S Γ (family_held p f) r n ≡ eliminating E S Γ f.large (tree_at p f.arity) (on_params (family_held p f)) t l
   unfolding family_held on_params

@@ -1,10 +1,10 @@
--- The sort that a return function answers in, from the sort of its type in a pool that has grown.
+-- The sort that a motive answers in, from the sort of its type in a pool that has grown.
 use Rattle.std.proofs.Common.{ℕ, ◌≡◌, Bool, List, ◌∷◌, sym, ◌∙◌}
 use Rattle.mt_term.specs.Trees.{Tree}
 use Rattle.mt_term.specs.Declarations.{Hypothesis, Environment}
-use Rattle.mt_term.specs.Charges.{Done}
+use Rattle.mt_rules.specs.Charges.{Done}
 use Rattle.mt_term.specs.Stores.{Store}
-use Rattle.mt_term.specs.Inference.{Product, infer, elimination, eliminating}
+use Rattle.mt_rules.specs.Inference.{Product, infer, elimination, eliminating}
 use Rattle.mt_pool.specs.Region.{tree_at}
 use Rattle.mt_infer.specs.declared.families.Family.{Family as HeldFamily}
 use Rattle.mt_infer.specs.Families.{family_held}

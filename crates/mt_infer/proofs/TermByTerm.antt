@@ -4,13 +4,14 @@ use Rattle.std.proofs.lemmas.Option.{slice_get_past}
 use Rattle.mt_term.specs.Trees.{Tree, Trees, Meta, End, Item}
 use Rattle.mt_term.specs.declared.modes.Mode.TheVariants.{AtMost}
 use Rattle.mt_term.specs.Substitution.{beyond, fill, join, then_as, under}
-use Rattle.mt_term.specs.Declarations.{Hypothesis, Environment, Reason, Unbound}
-use Rattle.mt_term.specs.Charges.{Charged, Done, Refused, Spent, and_then, rest}
-use Rattle.mt_term.specs.Inference.{agreement, infer, infer_terms, oldest}
+use Rattle.mt_term.specs.Declarations.{Hypothesis, Environment}
+use Rattle.mt_term.specs.Reasons.{Reason, Unbound}
+use Rattle.mt_rules.specs.Charges.{Charged, Done, Refused, Spent, and_then, rest}
+use Rattle.mt_rules.specs.Inference.{agreement, infer, infer_terms, oldest}
 use Rattle.mt_term.specs.Stores.{Declared, Store, types_onto, types_of}
-use Rattle.mt_term.proofs.Charged.{then-rest, then-then}
-use Rattle.mt_term.proofs.InferenceLaws.{infer-rest}
-use Rattle.mt_term.proofs.InferenceRules.{infer-out, infer_terms-rest, infer_terms-end, infer_terms-fewer, infer_terms-further, infer-meta-meta_none, infer-meta-terms_spent, infer-meta-terms_refused, infer-meta-terms_within, infer-meta-done}
+use Rattle.mt_rules_laws.proofs.Charged.{then-rest, then-then}
+use Rattle.mt_rules_laws.proofs.InferenceLaws.{infer-rest}
+use Rattle.mt_rules_laws.proofs.InferenceRules.{infer-out, infer_terms-rest, infer_terms-end, infer_terms-fewer, infer_terms-further, infer-meta-meta_none, infer-meta-terms_spent, infer-meta-terms_refused, infer-meta-terms_within, infer-meta-done}
 use Rattle.mt_pool.specs.declared.contexts.HeldHyp.{HeldHyp}
 use Rattle.mt_pool.specs.declared.nodes.TermId.{TermId}
 use Rattle.mt_pool.specs.HeldOf.{hypotheses_in, ContextBelow}

@@ -2,7 +2,7 @@
 use Rattle.std.specs.Prelude.{ℕ, ◌<◌, List, Option, Some, None}
 use Rattle.mt_term.specs.Trees.{Tree}
 use Rattle.mt_term.specs.Declarations.{Constructor}
-use Rattle.mt_term.specs.Inference.{Family}
+use Rattle.mt_rules.specs.Inference.{Family}
 use Rattle.mt_pool.specs.declared.held.HeldConstructor.{HeldConstructor}
 use Rattle.mt_pool.specs.HeldOf.{constructors_in, ConstructorsBelow}
 use Rattle.mt_pool.specs.Region.{tree_at, trees_at, ids_of, AllBelow}
@@ -15,7 +15,15 @@ unfoldable pub constructors_seen : List Tree → List HeldConstructor → List C
 constructors_seen p cs = constructors_in p cs
 
 unfoldable pub family_held : List Tree → HeldFamily → Family
-family_held p f = record { number = f.number; params = trees_at p (ids_of f.params); indices = trees_at p (ids_of f.indices); arity = tree_at p f.arity; constructors = constructors_seen p f.constructors.now; large = f.large }
+family_held p f =
+    record {
+      number = f.number;
+      params = trees_at p (ids_of f.params);
+      indices = trees_at p (ids_of f.indices);
+      arity = tree_at p f.arity;
+      constructors = constructors_seen p f.constructors.now;
+      large = f.large;
+    }
 
 abbrev pub family_in : List Tree → Option HeldFamily → Option Family
 family_in p None = None
@@ -23,7 +31,9 @@ family_in p (Some f) = Some (family_held p f)
 
 -- its ids are held where there are n
 unfoldable pub FamilyBelow : ℕ → HeldFamily → Type 0
-FamilyBelow n f = AllBelow n (ids_of f.params) × AllBelow n (ids_of f.indices) × (f.arity.at < n) × ConstructorsBelow n f.constructors.now
+FamilyBelow n f =
+    AllBelow n (ids_of f.params) × AllBelow n (ids_of f.indices) × (f.arity.at < n)
+    × ConstructorsBelow n f.constructors.now
 
 abbrev pub FamilyInBelow : ℕ → Option HeldFamily → Type 0
 FamilyInBelow n None = Unit {0}

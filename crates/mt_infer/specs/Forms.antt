@@ -2,7 +2,7 @@
 use Rattle.std.specs.Prelude.{ℕ, ◌<◌, List, Option, Some, None}
 use Rattle.mt_term.specs.Trees.{Tree, Sort, Prod}
 use Rattle.mt_term.specs.declared.universes.Sort.{Sort as AnySort}
-use Rattle.mt_term.specs.Inference.{Product}
+use Rattle.mt_rules.specs.Inference.{Product}
 use Rattle.mt_pool.specs.Region.{tree_at}
 use Rattle.mt_infer.specs.declared.expected.HeldProduct.{HeldProduct}
 

@@ -2,17 +2,17 @@
 ghost use Rattle.std.specs.Prelude.{◌≡◌, ◌<◌, ℕ, List, length, nat_eq, IfOk};
 ghost use Rattle.mt_infer.specs.Arguments.{args_in, trees_in, ArgsBelow, IdsBelow};
 ghost use Rattle.mt_infer.specs.Fitting.{instance, on_newest};
-ghost use Rattle.mt_pool.specs.Region.{ids_of, tree_at, trees_at, AllBelow, Kept, Names};
-ghost use Rattle.mt_term.specs.Contraction.{products};
+ghost use Rattle.mt_pool.specs.Region.{ids_of, tree_at, trees_at, AllBelow, Kept, Denotes};
 ghost use Rattle.mt_term.specs.Spines.{first_of};
-ghost use Rattle.mt_term.specs.Substitution.{all_but, apps, count};
+ghost use Rattle.mt_term.specs.Substitution.{all_but, apps, count, products};
 ghost use Rattle.mt_term.specs.Trees.{Tree};
 
 use mt_pool::{Node, Pool, TermId, TermIds};
 use mt_term::{OutOfMemory, deeper};
 use std::alloc::{AllocFailed, Global};
 
-/// The arguments of a term, the first of which is the innermost. Who goes down a term under a bound makes them, so they are no more than the bound.
+/// The arguments of a term, the first of which is the innermost. Who goes down a term under a bound
+/// makes them, so they are no more than the bound.
 #[derive(Clone, Copy)]
 pub enum Args<'a> {
     End,
@@ -61,49 +61,49 @@ pub fn all_but<'a>(args: &'a Args<'a>, past: usize) -> &'a Args<'a>
 }
 
 /// The arguments as a list of their own.
-pub fn listed(alloc: Global, args: &Args) -> Result<TermIds, OutOfMemory>
+pub fn ids_of_arguments(alloc: Global, args: &Args) -> Result<TermIds, OutOfMemory>
     ensures trees { IfOk result (λ s. (p : List Tree) → trees_at p (ids_of s) ≡ args_in p args.now) }
     ensures held { IfOk result (λ s. (m : ℕ) → ArgsBelow m args.now → AllBelow m (ids_of s)) }
 {
     match args {
         Args::End => Ok(TermIds::End),
         Args::More(a, rest) => {
-            let rest = listed(alloc, rest)?;
+            let rest = ids_of_arguments(alloc, rest)?;
             Ok(TermIds::Item(*a, Box::new(alloc, rest)?))
         }
     }
 }
 
-/// How many terms there are. More than `deep` count as want of memory.
-pub fn length(terms: &TermIds, deep: usize) -> Result<usize, OutOfMemory>
+/// How many terms there are. More than `depth_left` count as want of memory.
+pub fn length(terms: &TermIds, depth_left: usize) -> Result<usize, OutOfMemory>
     ensures { IfOk result (λ n. (p : List Tree) → n ≡ count (trees_at p (ids_of terms.now))) }
 {
-    let deep = deeper(deep)?;
+    let depth_left = deeper(depth_left)?;
     match terms {
         TermIds::End => Ok(0),
-        TermIds::Item(_, rest) => length(rest, deep)?.checked_add(1).ok_or(OutOfMemory),
+        TermIds::Item(_, rest) => length(rest, depth_left)?.checked_add(1).ok_or(OutOfMemory),
     }
 }
 
-/// The term on the terms. More than `deep` of them count as want of memory.
+/// The term on the terms. More than `depth_left` of them count as want of memory.
 #[tactic(auto, using(crate::proofs::Held::infer_held))]
 pub fn apply_all(
     pool: &mut Pool,
     t: TermId,
     terms: &TermIds,
-    deep: usize,
+    depth_left: usize,
 ) -> Result<TermId, OutOfMemory>
     requires term { t.at < length pool.old }
     requires others { AllBelow (length pool.old) (ids_of terms.now) }
     ensures kept { Kept pool.old pool.new }
-    ensures tree { IfOk result (λ u. Names pool.new u (apps (tree_at pool.old t) (trees_at pool.old (ids_of terms.now)))) }
+    ensures tree { IfOk result (λ u. Denotes pool.new u (apps (tree_at pool.old t) (trees_at pool.old (ids_of terms.now)))) }
 {
-    let deep = deeper(deep)?;
+    let depth_left = deeper(depth_left)?;
     match terms {
         TermIds::End => Ok(t),
         TermIds::Item(a, rest) => {
             let f = pool.put(Node::App(t, *a))?;
-            apply_all(pool, f, rest, deep)
+            apply_all(pool, f, rest, depth_left)
         }
     }
 }
@@ -113,7 +113,7 @@ pub fn apply_all(
 pub fn on_newest(pool: &mut Pool, alloc: Global, t: TermId) -> Result<TermId, OutOfMemory>
     requires { t.at < length pool.old }
     ensures kept { Kept pool.old pool.new }
-    ensures tree { IfOk result (λ u. Names pool.new u (on_newest (tree_at pool.old t))) }
+    ensures tree { IfOk result (λ u. Denotes pool.new u (on_newest (tree_at pool.old t))) }
 {
     let f = pool.lift(alloc, t, 1, 0)?;
     let a = pool.put(Node::Var(0))?;
@@ -131,23 +131,28 @@ pub fn instance(
     requires body { body.at < length pool.old }
     requires term { a.at < length pool.old }
     ensures kept { Kept pool.old pool.new }
-    ensures tree { IfOk result (λ u. Names pool.new u (instance (tree_at pool.old body) (tree_at pool.old a))) }
+    ensures tree { IfOk result (λ u. Denotes pool.new u (instance (tree_at pool.old body) (tree_at pool.old a))) }
 {
     pool.substitute(alloc, body, 0, a)
 }
 
-/// Whether so many products stand at the front of a type. Of calls one inside the other it makes at most `deep`.
-pub fn has_products(pool: &Pool, t: TermId, n: usize, deep: usize) -> Result<bool, OutOfMemory>
+/// Whether so many products stand at the front of a type. Recurses at most `depth_left` levels.
+pub fn has_products(
+    pool: &Pool,
+    t: TermId,
+    n: usize,
+    depth_left: usize,
+) -> Result<bool, OutOfMemory>
     requires { t.at < length pool.now }
     ensures { IfOk result (λ b. b ≡ nat_eq n (products (tree_at pool.now t))) }
 {
-    let deep = deeper(deep)?;
+    let depth_left = deeper(depth_left)?;
     match pool.node(t) {
         Node::Prod(_, _, b) => {
             if n == 0 {
                 return Ok(false);
             }
-            has_products(pool, *b, n - 1, deep)
+            has_products(pool, *b, n - 1, depth_left)
         }
         Node::Var(_)
         | Node::Sort(_)

@@ -5,13 +5,16 @@ ghost use Rattle.mt_infer.specs.Families.{constructors_seen, family_held, goal_i
 ghost use Rattle.mt_infer.specs.Fitting.{answer, branch_goal, has_branches, on_newest};
 ghost use Rattle.mt_layers.specs.Environments.{found_in, FoundBelow};
 ghost use Rattle.mt_pool.specs.HeldOf.{ConstructorsBelow};
-ghost use Rattle.mt_pool.specs.Region.{arms_at, branches_of, ids_of, tree_at, trees_at, AllBelow, ArmsBelow, Kept, Names as IsNamed};
-ghost use Rattle.mt_term.specs.Inference.{branch_type, branches_fit, return_at};
-ghost use Rattle.mt_term.specs.Spines.{as_ind, bullet, bullets};
-ghost use Rattle.mt_term.specs.Substitution.{join, lift};
+ghost use Rattle.mt_pool.specs.Region.{arms_at, branches_of, ids_of, tree_at, trees_at, AllBelow, ArmsBelow, Kept, Denotes as IsNamed};
+ghost use Rattle.mt_rules.specs.Inference.{branch_type, branches_fit, return_at};
+ghost use Rattle.mt_term.specs.Spines.{as_ind, motive_on, motive_on_all};
+ghost use Rattle.mt_term.specs.Substitution.{join};
+ghost use Rattle.mt_term.specs.Lifting.{lift};
 ghost use Rattle.mt_term.specs.Trees.{End, Item};
 
-use crate::arguments::{Args, all_but, apply_all, has_products, length, listed, on_newest};
+use crate::arguments::{
+    Args, all_but, apply_all, has_products, ids_of_arguments, length, on_newest,
+};
 use crate::families::{Family, at_args, constructor_type};
 use mt_pool::{BranchIds, HeldCons, Node, Pool, TermId, TermIds};
 use mt_term::{Names, OutOfMemory, deeper};
@@ -24,7 +27,8 @@ pub struct BranchGoal {
     pub ty: TermId,
 }
 
-/// The goal of the branch for constructor `k`, which has the type `ty`, where it has one. Of calls one inside the other it makes at most `deep`.
+/// The goal of the branch for constructor `k`, which has the type `ty`, where it has one. Recurses
+/// at most `depth_left` levels.
 #[tactic(auto, using(crate::proofs::Held::infer_held, crate::proofs::Branching::goal_rules))]
 pub fn branch_goal(
     pool: &mut Pool,
@@ -34,7 +38,7 @@ pub fn branch_goal(
     ty: TermId,
     returns: TermId,
     names: &Names,
-    deep: usize,
+    depth_left: usize,
 ) -> Result<Option<BranchGoal>, OutOfMemory>
     requires family { FamilyBelow (length pool.old) family.now }
     requires ty { ty.at < length pool.old }
@@ -44,34 +48,36 @@ pub fn branch_goal(
     ensures tree { IfOk result (λ o. goal_in pool.new o ≡ branch_goal (family_held pool.old family.now) k (tree_at pool.old ty) (tree_at pool.old returns) names.now) }
 {
     let params = &family.params;
-    let count = length(params, deep)?;
-    let Some(own) = at_args(pool, alloc, ty, params, deep)? else {
+    let count = length(params, depth_left)?;
+    let Some(own) = at_args(pool, alloc, ty, params, depth_left)? else {
         return Ok(None);
     };
     let constructor = pool.put(Node::Con(family.number, k))?;
-    let on_params = apply_all(pool, constructor, params, deep)?;
-    match branch_type(pool, alloc, count, returns, on_params, own, names, 0, deep)? {
+    let on_params = apply_all(pool, constructor, params, depth_left)?;
+    match branch_type(
+        pool, alloc, count, returns, on_params, own, names, 0, depth_left,
+    )? {
         None => Ok(None),
         Some(ty) => Ok(Some(BranchGoal { own, ty })),
     }
 }
 
-/// Whether the branches are those of the constructors. Of calls one inside the other it makes at most `deep`.
+/// Whether the branches are those of the constructors. Recurses at most `depth_left` levels.
 #[tactic(auto, unfolding(crate::specs::Families::family_held, crate::specs::Families::FamilyBelow, crate::specs::Fitting::has_branches))]
 pub fn has_branches(
     pool: &Pool,
     family: &Family<'_>,
     branches: &BranchIds,
-    deep: usize,
+    depth_left: usize,
 ) -> Result<bool, OutOfMemory>
     requires { FamilyBelow (length pool.now) family.now }
     ensures { IfOk result (λ b. b ≡ has_branches (family_held pool.now family.now) (arms_at pool.now (branches_of branches.now))) }
 {
-    let params = length(&family.params, deep)?;
-    branches_fit(pool, params, family.constructors, 0, branches, deep)
+    let params = length(&family.params, depth_left)?;
+    branches_fit(pool, params, family.constructors, 0, branches, depth_left)
 }
 
-/// The return function on the indices, and on the matched term. Of calls one inside the other it makes at most `deep`.
+/// The motive on the indices, and on the matched term. Recurses at most `depth_left` levels.
 #[tactic(auto, using(crate::proofs::Held::infer_held), unfolding(crate::specs::Families::family_held, crate::specs::Families::FamilyBelow, crate::specs::Fitting::answer))]
 pub fn answer(
     pool: &mut Pool,
@@ -79,7 +85,7 @@ pub fn answer(
     family: &Family<'_>,
     returns: TermId,
     c: TermId,
-    deep: usize,
+    depth_left: usize,
 ) -> Result<TermId, OutOfMemory>
     requires family { FamilyBelow (length pool.old) family.now }
     requires function { returns.at < length pool.old }
@@ -87,10 +93,11 @@ pub fn answer(
     ensures kept { Kept pool.old pool.new }
     ensures tree { IfOk result (λ t. IsNamed pool.new t (answer (family_held pool.old family.now) (tree_at pool.old returns) (tree_at pool.old c))) }
 {
-    bullets(pool, alloc, returns, &family.indices, c, deep)
+    motive_on_all(pool, alloc, returns, &family.indices, c, depth_left)
 }
 
-/// Whether there are as many branches as constructors from number `k` on, each with as many names as its constructor has arguments past the parameters.
+/// Whether there are as many branches as constructors from number `k` on, each with as many names
+/// as its constructor has arguments past the parameters.
 #[tactic(auto, using(crate::proofs::Branching::list_rules))]
 fn branches_fit(
     pool: &Pool,
@@ -98,12 +105,12 @@ fn branches_fit(
     constructors: &HeldCons,
     k: usize,
     branches: &BranchIds,
-    deep: usize,
+    depth_left: usize,
 ) -> Result<bool, OutOfMemory>
     requires { ConstructorsBelow (length pool.now) constructors.now }
     ensures { IfOk result (λ b. b ≡ branches_fit params (drop k (constructors_seen pool.now constructors.now)) (arms_at pool.now (branches_of branches.now))) }
 {
-    let deep = deeper(deep)?;
+    let depth_left = deeper(depth_left)?;
     match branches {
         BranchIds::End => match constructor_type(constructors, k) {
             None => Ok(true),
@@ -113,23 +120,28 @@ fn branches_fit(
             None => Ok(false),
             Some(ty) => {
                 let names = names.len().checked_add(params).ok_or(OutOfMemory)?;
-                if !has_products(pool, ty, names, deep)? {
+                if !has_products(pool, ty, names, depth_left)? {
                     return Ok(false);
                 }
                 let next = k.checked_add(1).ok_or(OutOfMemory)?;
-                branches_fit(pool, params, constructors, next, rest, deep)
+                branches_fit(pool, params, constructors, next, rest, depth_left)
             }
         },
     }
 }
 
-/// A return function on an argument: its body at it where it is an abstraction.
+/// A motive on an argument: its body at it where it is an abstraction.
 #[tactic(auto, using(crate::proofs::Held::infer_held))]
-fn bullet(pool: &mut Pool, alloc: Global, returns: TermId, u: TermId) -> Result<TermId, OutOfMemory>
+fn motive_on(
+    pool: &mut Pool,
+    alloc: Global,
+    returns: TermId,
+    u: TermId,
+) -> Result<TermId, OutOfMemory>
     requires function { returns.at < length pool.old }
     requires term { u.at < length pool.old }
     ensures kept { Kept pool.old pool.new }
-    ensures tree { IfOk result (λ t. IsNamed pool.new t (bullet (tree_at pool.old returns) (tree_at pool.old u))) }
+    ensures tree { IfOk result (λ t. IsNamed pool.new t (motive_on (tree_at pool.old returns) (tree_at pool.old u))) }
 {
     match pool.node(returns) {
         Node::Lam(_, _, body) => {
@@ -149,33 +161,34 @@ fn bullet(pool: &mut Pool, alloc: Global, returns: TermId, u: TermId) -> Result<
     }
 }
 
-/// A return function on the indices, and on a last argument. Of calls one inside the other it makes at most `deep`.
+/// A motive on the indices, and on a last argument. Recurses at most `depth_left` levels.
 #[tactic(auto, using(crate::proofs::Held::infer_held))]
-fn bullets(
+fn motive_on_all(
     pool: &mut Pool,
     alloc: Global,
     returns: TermId,
     indices: &TermIds,
     last: TermId,
-    deep: usize,
+    depth_left: usize,
 ) -> Result<TermId, OutOfMemory>
     requires function { returns.at < length pool.old }
     requires indices { AllBelow (length pool.old) (ids_of indices.now) }
     requires last { last.at < length pool.old }
     ensures kept { Kept pool.old pool.new }
-    ensures tree { IfOk result (λ t. IsNamed pool.new t (bullets (tree_at pool.old returns) (join (trees_at pool.old (ids_of indices.now)) (Item (tree_at pool.old last) End)))) }
+    ensures tree { IfOk result (λ t. IsNamed pool.new t (motive_on_all (tree_at pool.old returns) (join (trees_at pool.old (ids_of indices.now)) (Item (tree_at pool.old last) End)))) }
 {
-    let deep = deeper(deep)?;
+    let depth_left = deeper(depth_left)?;
     match indices {
-        TermIds::End => bullet(pool, alloc, returns, last),
+        TermIds::End => motive_on(pool, alloc, returns, last),
         TermIds::Item(a, rest) => {
-            let returns = bullet(pool, alloc, returns, *a)?;
-            bullets(pool, alloc, returns, rest, last, deep)
+            let returns = motive_on(pool, alloc, returns, *a)?;
+            motive_on_all(pool, alloc, returns, rest, last, depth_left)
         }
     }
 }
 
-/// The return function on the indices of the type that `t` on the arguments is, and on the constructor. Of calls one inside the other it makes at most `deep`.
+/// The motive on the indices of the type that `t` on the arguments is, and on the constructor.
+/// Recurses at most `depth_left` levels.
 #[tactic(auto, using(crate::proofs::Held::infer_held))]
 fn return_at(
     pool: &mut Pool,
@@ -185,7 +198,7 @@ fn return_at(
     constructor: TermId,
     t: TermId,
     args: &Args<'_>,
-    deep: usize,
+    depth_left: usize,
 ) -> Result<Option<TermId>, OutOfMemory>
     requires function { returns.at < length pool.old }
     requires constructor { constructor.at < length pool.old }
@@ -195,16 +208,25 @@ fn return_at(
     ensures held { IfOk result (λ o. FoundBelow (length pool.new) o) }
     ensures tree { IfOk result (λ o. found_in pool.new o ≡ return_at params (tree_at pool.old returns) (tree_at pool.old constructor) (as_ind (tree_at pool.old t) (args_in pool.old args.now))) }
 {
-    let deep = deeper(deep)?;
+    let depth_left = deeper(depth_left)?;
     match pool.node(t) {
         Node::App(f, a) => {
             let f = *f;
             let args = Args::More(*a, &*args);
-            return_at(pool, alloc, params, returns, constructor, f, &args, deep)
+            return_at(
+                pool,
+                alloc,
+                params,
+                returns,
+                constructor,
+                f,
+                &args,
+                depth_left,
+            )
         }
         Node::Ind(_) => {
-            let indices = listed(alloc, all_but(&*args, params))?;
-            let ty = bullets(pool, alloc, returns, &indices, constructor, deep)?;
+            let indices = ids_of_arguments(alloc, all_but(&*args, params))?;
+            let ty = motive_on_all(pool, alloc, returns, &indices, constructor, depth_left)?;
             Ok(Some(ty))
         }
         Node::Var(_)
@@ -218,7 +240,7 @@ fn return_at(
     }
 }
 
-/// A return function and a constructor under one more name, the constructor on its variable.
+/// A motive and a constructor under one more name, the constructor on its variable.
 #[tactic(auto, using(crate::proofs::Held::infer_held))]
 fn under_name(
     pool: &mut Pool,
@@ -237,7 +259,8 @@ fn under_name(
     Ok((returns, on_name))
 }
 
-/// The type of a branch's body under its names from `at` on, by the return function, the constructor on what stands before them, and the rest of its type. Of calls one inside the other it makes at most `deep`.
+/// The type of a branch's body under its names from `at` on, by the motive, the constructor on what
+/// stands before them, and the rest of its type. Recurses at most `depth_left` levels.
 #[tactic(auto, using(crate::proofs::Held::infer_held, crate::proofs::Branching::list_rules))]
 fn branch_type(
     pool: &mut Pool,
@@ -248,7 +271,7 @@ fn branch_type(
     ty: TermId,
     names: &Names,
     at: usize,
-    deep: usize,
+    depth_left: usize,
 ) -> Result<Option<TermId>, OutOfMemory>
     requires function { returns.at < length pool.old }
     requires constructor { constructor.at < length pool.old }
@@ -257,7 +280,7 @@ fn branch_type(
     ensures held { IfOk result (λ o. FoundBelow (length pool.new) o) }
     ensures tree { IfOk result (λ o. found_in pool.new o ≡ branch_type params (tree_at pool.old returns) (tree_at pool.old constructor) (tree_at pool.old ty) (drop at names.now)) }
 {
-    let deep = deeper(deep)?;
+    let depth_left = deeper(depth_left)?;
     match names.get(at) {
         None => return_at(
             pool,
@@ -267,7 +290,7 @@ fn branch_type(
             constructor,
             ty,
             &Args::End,
-            deep,
+            depth_left,
         ),
         Some(_) => match pool.node(ty) {
             Node::Prod(_, _, codomain) => {
@@ -275,7 +298,7 @@ fn branch_type(
                 let next = at.checked_add(1).ok_or(OutOfMemory)?;
                 let (returns, on_name) = under_name(pool, alloc, returns, constructor)?;
                 branch_type(
-                    pool, alloc, params, returns, on_name, codomain, names, next, deep,
+                    pool, alloc, params, returns, on_name, codomain, names, next, depth_left,
                 )
             }
             Node::Var(_)

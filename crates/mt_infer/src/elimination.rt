@@ -1,12 +1,12 @@
-// Which sort a return function answers in, by its type.
+// Which sort a motive answers in, by its type.
 ghost use Rattle.std.specs.Prelude.{◌≡◌, ◌<◌, ◌+◌, length};
 ghost use Rattle.mt_infer.specs.Fitting.{eliminating_over};
 ghost use Rattle.mt_infer.specs.Scopes.{scope_in, ScopeBelow};
 ghost use Rattle.mt_layers.specs.Environments.{environment_in, EnvBelow};
-ghost use Rattle.mt_layers.specs.Meets.{Meets};
+ghost use Rattle.mt_rules.specs.Answers.{Answers};
 ghost use Rattle.mt_pool.specs.Region.{tree_at, Kept};
 ghost use Rattle.mt_store.specs.Held.{store_in, StoreBelow};
-ghost use Rattle.mt_term.specs.Inference.{eliminating, may_eliminate};
+ghost use Rattle.mt_rules.specs.Inference.{eliminating, may_eliminate};
 ghost use Rattle.mt_term.specs.Trees.{Sort as SortTree};
 
 use crate::arguments::on_newest;
@@ -31,10 +31,12 @@ fn may_eliminate(large: bool, from: &Sort, into: &Sort) -> bool
     }
 }
 
-/// The sort that a return function of type `ty` answers in: `ty` has to be products over the indices of `arity`, and over `family` on them, into a sort that is allowed. Of calls one inside the other it makes at most `deep`.
-#[cycle(eliminated)]
+/// The sort that a motive of type `ty` answers in: `ty` has to be products over the indices of
+/// `arity`, and over `family` on them, into a sort that is allowed. Recurses at most `depth_left`
+/// levels.
+#[cycle(elimination_sort)]
 #[tactic(auto, using(crate::proofs::Held::infer_held, crate::proofs::Eliminating::eliminating_rules))]
-pub fn eliminated<C: Convert, W: Whd, L: Ledger>(
+pub fn elimination_sort<C: Convert, W: Whd, L: Ledger>(
     i: &Inferrer<C, W>,
     alloc: Global,
     w: &mut Work<'_>,
@@ -43,7 +45,7 @@ pub fn eliminated<C: Convert, W: Whd, L: Ledger>(
     arity: TermId,
     family: TermId,
     ty: TermId,
-    deep: usize,
+    depth_left: usize,
     steps: &mut Steps<L>,
 ) -> Result<Sort, Stop>
     requires arity_held { arity.at < length w.old.pool.now }
@@ -56,16 +58,16 @@ pub fn eliminated<C: Convert, W: Whd, L: Ledger>(
     ensures env { w.new.env ≡ w.old.env }
     ensures store { w.new.store ≡ w.old.store }
     ensures kept { Kept w.old.pool.now w.new.pool.now }
-    ensures outcome { Meets (λ s. s) (eliminating (environment_in w.old.pool.now w.old.env.now) (store_in w.old.pool.now w.old.store.now) (scope_in w.old.pool.now scope.now) large (tree_at w.old.pool.now arity) (tree_at w.old.pool.now family) (tree_at w.old.pool.now ty) w.old.left) w.new.left result }
+    ensures outcome { Answers (λ s. s) (eliminating (environment_in w.old.pool.now w.old.env.now) (store_in w.old.pool.now w.old.store.now) (scope_in w.old.pool.now scope.now) large (tree_at w.old.pool.now arity) (tree_at w.old.pool.now family) (tree_at w.old.pool.now ty) w.old.left) w.new.left result }
     ensures cost { steps.new + w.new.left ≡ steps.old + w.old.left }
 {
-    let deep = deeper(deep)?;
+    let depth_left = deeper(depth_left)?;
     match w.pool.node(arity) {
         Node::Prod(_, index, rest) => {
             let index = *index;
             let rest = *rest;
             eliminated_over(
-                i, alloc, w, scope, large, index, rest, family, ty, deep, steps,
+                i, alloc, w, scope, large, index, rest, family, ty, depth_left, steps,
             )
         }
         Node::Sort(from) => {
@@ -83,8 +85,9 @@ pub fn eliminated<C: Convert, W: Whd, L: Ledger>(
     }
 }
 
-/// The same over a further index, and then the rest of the arity. Of calls one inside the other it makes at most `deep`.
-#[cycle(eliminated)]
+/// The same over a further index, and then the rest of the arity. Recurses at most `depth_left`
+/// levels.
+#[cycle(elimination_sort)]
 #[tactic(auto, using(crate::proofs::Held::infer_held, crate::proofs::Eliminating::index_rules))]
 fn eliminated_over<C: Convert, W: Whd, L: Ledger>(
     i: &Inferrer<C, W>,
@@ -96,7 +99,7 @@ fn eliminated_over<C: Convert, W: Whd, L: Ledger>(
     rest: TermId,
     family: TermId,
     ty: TermId,
-    deep: usize,
+    depth_left: usize,
     steps: &mut Steps<L>,
 ) -> Result<Sort, Stop>
     requires index_held { index.at < length w.old.pool.now }
@@ -110,16 +113,16 @@ fn eliminated_over<C: Convert, W: Whd, L: Ledger>(
     ensures env { w.new.env ≡ w.old.env }
     ensures store { w.new.store ≡ w.old.store }
     ensures kept { Kept w.old.pool.now w.new.pool.now }
-    ensures outcome { Meets (λ s. s) (eliminating_over (environment_in w.old.pool.now w.old.env.now) (store_in w.old.pool.now w.old.store.now) (scope_in w.old.pool.now scope.now) large (tree_at w.old.pool.now index) (tree_at w.old.pool.now rest) (tree_at w.old.pool.now family) (tree_at w.old.pool.now ty) w.old.left) w.new.left result }
+    ensures outcome { Answers (λ s. s) (eliminating_over (environment_in w.old.pool.now w.old.env.now) (store_in w.old.pool.now w.old.store.now) (scope_in w.old.pool.now scope.now) large (tree_at w.old.pool.now index) (tree_at w.old.pool.now rest) (tree_at w.old.pool.now family) (tree_at w.old.pool.now ty) w.old.left) w.new.left result }
     ensures cost { steps.new + w.new.left ≡ steps.old + w.old.left }
 {
-    let deep = deeper(deep)?;
+    let depth_left = deeper(depth_left)?;
     let on_index = on_newest(w.pool, alloc, family)?;
     let product = product_over(i, alloc, w, scope, ty, index, steps)?;
     let inner = Scope::More(&product.name, product.domain, &*scope);
     let codomain = product.codomain;
-    eliminated(
-        i, alloc, w, &inner, large, rest, on_index, codomain, deep, steps,
+    elimination_sort(
+        i, alloc, w, &inner, large, rest, on_index, codomain, depth_left, steps,
     )
 }
 
@@ -145,7 +148,7 @@ fn eliminated_last<C: Convert, W: Whd, L: Ledger>(
     ensures env { w.new.env ≡ w.old.env }
     ensures store { w.new.store ≡ w.old.store }
     ensures kept { Kept w.old.pool.now w.new.pool.now }
-    ensures outcome { Meets (λ s. s) (eliminating (environment_in w.old.pool.now w.old.env.now) (store_in w.old.pool.now w.old.store.now) (scope_in w.old.pool.now scope.now) large (SortTree from) (tree_at w.old.pool.now family) (tree_at w.old.pool.now ty) w.old.left) w.new.left result }
+    ensures outcome { Answers (λ s. s) (eliminating (environment_in w.old.pool.now w.old.env.now) (store_in w.old.pool.now w.old.store.now) (scope_in w.old.pool.now scope.now) large (SortTree from) (tree_at w.old.pool.now family) (tree_at w.old.pool.now ty) w.old.left) w.new.left result }
     ensures cost { steps.new + w.new.left ≡ steps.old + w.old.left }
 {
     let product = product_over(i, alloc, w, scope, ty, family, steps)?;

@@ -1,7 +1,7 @@
 // The types of entries.
 ghost use Rattle.std.specs.Prelude.{◌≡◌, ℕ, List, slice_get};
 ghost use Rattle.mt_layers.specs.Environments.{environment_in, found_in, EnvBelow, FoundBelow};
-ghost use Rattle.mt_term.specs.Inference.{constant_type, inductive_type};
+ghost use Rattle.mt_rules.specs.Inference.{constant_type, inductive_type};
 ghost use Rattle.mt_term.specs.Trees.{Tree};
 
 use mt_env::Env;

@@ -4,10 +4,10 @@ ghost use Rattle.mt_infer.specs.Fitting.{product_over};
 ghost use Rattle.mt_infer.specs.Forms.{held, held_in, product_in, sort_in, ProductBelow, ProductInBelow};
 ghost use Rattle.mt_infer.specs.Scopes.{scope_in, ScopeBelow};
 ghost use Rattle.mt_layers.specs.Environments.{environment_in, EnvBelow};
-ghost use Rattle.mt_layers.specs.Meets.{Meets};
+ghost use Rattle.mt_rules.specs.Answers.{Answers};
 ghost use Rattle.mt_pool.specs.Region.{tree_at, Kept};
 ghost use Rattle.mt_store.specs.Held.{store_in, StoreBelow};
-ghost use Rattle.mt_term.specs.Inference.{agreement, as_product, as_sort};
+ghost use Rattle.mt_rules.specs.Inference.{agreement, as_product, as_sort};
 
 use crate::inferrer::Inferrer;
 use crate::scopes::{Scope, hypotheses};
@@ -86,7 +86,7 @@ pub fn as_sort<C: Convert, W: Whd, L: Ledger>(
     ensures env { w.new.env ≡ w.old.env }
     ensures store { w.new.store ≡ w.old.store }
     ensures kept { Kept w.old.pool.now w.new.pool.now }
-    ensures outcome { Meets (λ s. s) (as_sort (environment_in w.old.pool.now w.old.env.now) (store_in w.old.pool.now w.old.store.now) (tree_at w.old.pool.now t) w.old.left) w.new.left result }
+    ensures outcome { Answers (λ s. s) (as_sort (environment_in w.old.pool.now w.old.env.now) (store_in w.old.pool.now w.old.store.now) (tree_at w.old.pool.now t) w.old.left) w.new.left result }
     ensures cost { steps.new + w.new.left ≡ steps.old + w.old.left }
 {
     let head = i.whd.whd(alloc, w, t, steps)?;
@@ -109,7 +109,7 @@ pub fn as_product<C: Convert, W: Whd, L: Ledger>(
     ensures env { w.new.env ≡ w.old.env }
     ensures store { w.new.store ≡ w.old.store }
     ensures kept { Kept w.old.pool.now w.new.pool.now }
-    ensures outcome { Meets (held w.new.pool.now) (as_product (environment_in w.old.pool.now w.old.env.now) (store_in w.old.pool.now w.old.store.now) (tree_at w.old.pool.now t) w.old.left) w.new.left result }
+    ensures outcome { Answers (held w.new.pool.now) (as_product (environment_in w.old.pool.now w.old.env.now) (store_in w.old.pool.now w.old.store.now) (tree_at w.old.pool.now t) w.old.left) w.new.left result }
     ensures result_held { IfOk result (λ k. ProductBelow (length w.new.pool.now) k) }
     ensures cost { steps.new + w.new.left ≡ steps.old + w.old.left }
 {
@@ -138,7 +138,7 @@ pub fn agree<C: Convert, W: Whd, L: Ledger>(
     ensures env { w.new.env ≡ w.old.env }
     ensures store { w.new.store ≡ w.old.store }
     ensures kept { Kept w.old.pool.now w.new.pool.now }
-    ensures outcome { Meets (λ a. a) (agreement (environment_in w.old.pool.now w.old.env.now) (store_in w.old.pool.now w.old.store.now) (scope_in w.old.pool.now scope.now) mode (tree_at w.old.pool.now inferred) (tree_at w.old.pool.now expected) w.old.left) w.new.left result }
+    ensures outcome { Answers (λ a. a) (agreement (environment_in w.old.pool.now w.old.env.now) (store_in w.old.pool.now w.old.store.now) (scope_in w.old.pool.now scope.now) mode (tree_at w.old.pool.now inferred) (tree_at w.old.pool.now expected) w.old.left) w.new.left result }
     ensures cost { steps.new + w.new.left ≡ steps.old + w.old.left }
 {
     if i.convert
@@ -174,7 +174,7 @@ pub fn product_over<C: Convert, W: Whd, L: Ledger>(
     ensures env { w.new.env ≡ w.old.env }
     ensures store { w.new.store ≡ w.old.store }
     ensures kept { Kept w.old.pool.now w.new.pool.now }
-    ensures outcome { Meets (held w.new.pool.now) (product_over (environment_in w.old.pool.now w.old.env.now) (store_in w.old.pool.now w.old.store.now) (scope_in w.old.pool.now scope.now) (tree_at w.old.pool.now ty) (tree_at w.old.pool.now domain) w.old.left) w.new.left result }
+    ensures outcome { Answers (held w.new.pool.now) (product_over (environment_in w.old.pool.now w.old.env.now) (store_in w.old.pool.now w.old.store.now) (scope_in w.old.pool.now scope.now) (tree_at w.old.pool.now ty) (tree_at w.old.pool.now domain) w.old.left) w.new.left result }
     ensures result_held { IfOk result (λ k. ProductBelow (length w.new.pool.now) k) }
     ensures cost { steps.new + w.new.left ≡ steps.old + w.old.left }
 {

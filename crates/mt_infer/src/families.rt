@@ -5,19 +5,20 @@ ghost use Rattle.mt_infer.specs.Families.{constructors_seen, family_held, family
 ghost use Rattle.mt_infer.specs.Fitting.{declared, on_params};
 ghost use Rattle.mt_layers.specs.Environments.{environment_in, found_in, EnvBelow, FoundBelow};
 ghost use Rattle.mt_pool.specs.HeldOf.{ConstructorsBelow};
-ghost use Rattle.mt_pool.specs.Region.{ids_of, tree_at, trees_at, AllBelow, Kept, Names};
-ghost use Rattle.mt_term.specs.Inference.{as_family, constructor_type, family_of, family_on, only};
+ghost use Rattle.mt_pool.specs.Region.{ids_of, tree_at, trees_at, AllBelow, Kept, Denotes};
+ghost use Rattle.mt_rules.specs.Inference.{as_family, constructor_type, family_of, family_on, only};
 ghost use Rattle.mt_term.specs.Spines.{as_ind, at_args};
 ghost use Rattle.mt_term.specs.Trees.{Tree};
 
-use crate::arguments::{Args, all_but, apply_all, count, first_of, has_products, listed};
+use crate::arguments::{Args, all_but, apply_all, count, first_of, has_products, ids_of_arguments};
 use mt_env::Env;
 use mt_layers::{entry, type_of_constructor};
 use mt_pool::{Held, HeldCons, Node, Pool, TermId, TermIds};
 use mt_term::{OutOfMemory, deeper};
 use std::alloc::Global;
 
-/// An inductive type on its parameters and indices: its number, these, its type at the parameters, its constructors, and whether it is large.
+/// An inductive type on its parameters and indices: its number, these, its type at the parameters,
+/// its constructors, and whether it is large.
 #[derive(Drop)]
 pub struct Family<'a> {
     pub number: usize,
@@ -39,25 +40,30 @@ pub fn constructor_type(constructors: &HeldCons, k: usize) -> Option<TermId>
 
 /// The type of constructor `k`.
 #[tactic(auto, unfolding(crate::specs::Families::family_held, crate::specs::Families::FamilyBelow, crate::specs::Fitting::declared))]
-pub fn declared(family: &Family<'_>, k: usize) -> Option<TermId>
+pub fn constructor_type_at(family: &Family<'_>, k: usize) -> Option<TermId>
     ensures tree { (p : List Tree) → found_in p result ≡ declared (family_held p family.now) k }
     ensures held { (m : ℕ) → FamilyBelow m family.now → FoundBelow m result }
 {
     constructor_type(family.constructors, k)
 }
 
-/// The inductive type on its parameters. Of calls one inside the other it makes at most `deep`.
+/// The inductive type on its parameters. Recurses at most `depth_left` levels.
 #[tactic(auto, using(crate::proofs::Held::infer_held), unfolding(crate::specs::Families::family_held, crate::specs::Families::FamilyBelow, crate::specs::Fitting::on_params))]
-pub fn on_params(pool: &mut Pool, family: &Family<'_>, deep: usize) -> Result<TermId, OutOfMemory>
+pub fn on_params(
+    pool: &mut Pool,
+    family: &Family<'_>,
+    depth_left: usize,
+) -> Result<TermId, OutOfMemory>
     requires { FamilyBelow (length pool.old) family.now }
     ensures kept { Kept pool.old pool.new }
-    ensures tree { IfOk result (λ u. Names pool.new u (on_params (family_held pool.old family.now))) }
+    ensures tree { IfOk result (λ u. Denotes pool.new u (on_params (family_held pool.old family.now))) }
 {
     let head = pool.put(Node::Ind(family.number))?;
-    apply_all(pool, head, &family.params, deep)
+    apply_all(pool, head, &family.params, depth_left)
 }
 
-/// A type as the inductive type `number` on its parameters and indices. Of calls one inside the other it makes at most `deep`.
+/// A type as the inductive type `number` on its parameters and indices. Recurses at most
+/// `depth_left` levels.
 #[tactic(auto, using(crate::proofs::Held::infer_held), unfolding(crate::specs::Families::family_held))]
 pub fn family_numbered<'a>(
     pool: &mut Pool,
@@ -65,7 +71,7 @@ pub fn family_numbered<'a>(
     env: &'a Env,
     number: usize,
     t: TermId,
-    deep: usize,
+    depth_left: usize,
 ) -> Result<Option<Family<'a>>, OutOfMemory>
     requires held { t.at < length pool.old }
     requires env_held { EnvBelow (length pool.old) env.now }
@@ -74,7 +80,7 @@ pub fn family_numbered<'a>(
     ensures tree { let es = (environment_in pool.old env.now).entries in
         IfOk result (λ o. family_in pool.new o ≡ only number (as_family es (tree_at pool.old t))) }
 {
-    match family_on(pool, alloc, env, t, &Args::End, deep)? {
+    match family_on(pool, alloc, env, t, &Args::End, depth_left)? {
         None => Ok(None),
         Some(family) => {
             if family.number != number {
@@ -85,7 +91,8 @@ pub fn family_numbered<'a>(
     }
 }
 
-/// A type on the arguments as an inductive type on its parameters and indices. Of calls one inside the other it makes at most `deep`.
+/// A type on the arguments as an inductive type on its parameters and indices. Recurses at most
+/// `depth_left` levels.
 #[tactic(auto, using(crate::proofs::Held::infer_held))]
 fn family_on<'a>(
     pool: &mut Pool,
@@ -93,7 +100,7 @@ fn family_on<'a>(
     env: &'a Env,
     t: TermId,
     args: &Args<'_>,
-    deep: usize,
+    depth_left: usize,
 ) -> Result<Option<Family<'a>>, OutOfMemory>
     requires held { t.at < length pool.old }
     requires others { ArgsBelow (length pool.old) args.now }
@@ -103,16 +110,16 @@ fn family_on<'a>(
     ensures tree { let es = (environment_in pool.old env.now).entries in
         IfOk result (λ o. family_in pool.new o ≡ family_on es (as_ind (tree_at pool.old t) (args_in pool.old args.now))) }
 {
-    let deep = deeper(deep)?;
+    let depth_left = deeper(depth_left)?;
     match pool.node(t) {
         Node::App(f, a) => {
             let f = *f;
             let a = *a;
-            family_on(pool, alloc, env, f, &Args::More(a, &*args), deep)
+            family_on(pool, alloc, env, f, &Args::More(a, &*args), depth_left)
         }
         Node::Ind(e) => {
             let e = *e;
-            family_of(pool, alloc, env, e, args, deep)
+            family_of(pool, alloc, env, e, args, depth_left)
         }
         Node::Var(_)
         | Node::Sort(_)
@@ -133,7 +140,7 @@ fn family_of<'a>(
     env: &'a Env,
     number: usize,
     args: &Args<'_>,
-    deep: usize,
+    depth_left: usize,
 ) -> Result<Option<Family<'a>>, OutOfMemory>
     requires others { ArgsBelow (length pool.old) args.now }
     requires env_held { EnvBelow (length pool.old) env.now }
@@ -152,14 +159,14 @@ fn family_of<'a>(
                 ..
             },
         ) => {
-            if !has_products(pool, *ty, count(args)?, deep)? {
+            if !has_products(pool, *ty, count(args)?, depth_left)? {
                 return Ok(None);
             }
             let Some(first) = first_of(alloc, args, *params)? else {
                 return Ok(None);
             };
-            let indices = listed(alloc, all_but(args, *params))?;
-            let Some(arity) = at_args(pool, alloc, *ty, &first, deep)? else {
+            let indices = ids_of_arguments(alloc, all_but(args, *params))?;
+            let Some(arity) = at_args(pool, alloc, *ty, &first, depth_left)? else {
                 return Ok(None);
             };
             Ok(Some(Family {
@@ -178,14 +185,14 @@ fn family_of<'a>(
     }
 }
 
-/// A type of products at the terms, where it has so many. Of calls one inside the other it makes at most `deep`.
+/// A type of products at the terms, where it has so many. Recurses at most `depth_left` levels.
 #[tactic(auto, using(crate::proofs::Held::infer_held))]
 pub fn at_args(
     pool: &mut Pool,
     alloc: Global,
     ty: TermId,
     terms: &TermIds,
-    deep: usize,
+    depth_left: usize,
 ) -> Result<Option<TermId>, OutOfMemory>
     requires term { ty.at < length pool.old }
     requires others { AllBelow (length pool.old) (ids_of terms.now) }
@@ -193,14 +200,14 @@ pub fn at_args(
     ensures held { IfOk result (λ o. FoundBelow (length pool.new) o) }
     ensures tree { IfOk result (λ o. found_in pool.new o ≡ at_args (tree_at pool.old ty) (trees_at pool.old (ids_of terms.now))) }
 {
-    let deep = deeper(deep)?;
+    let depth_left = deeper(depth_left)?;
     match terms {
         TermIds::End => Ok(Some(ty)),
         TermIds::Item(u, rest) => match pool.node(ty) {
             Node::Prod(_, _, codomain) => {
                 let codomain = *codomain;
                 let ty = pool.substitute(alloc, codomain, 0, *u)?;
-                at_args(pool, alloc, ty, rest, deep)
+                at_args(pool, alloc, ty, rest, depth_left)
             }
             Node::Var(_)
             | Node::Sort(_)

@@ -4,10 +4,10 @@ ghost use Rattle.mt_infer.specs.Fitting.{applied};
 ghost use Rattle.mt_infer.specs.Forms.{held, ProductBelow};
 ghost use Rattle.mt_infer.specs.Scopes.{scope_in, ScopeBelow};
 ghost use Rattle.mt_layers.specs.Environments.{environment_in, EnvBelow};
-ghost use Rattle.mt_layers.specs.Meets.{Meets};
+ghost use Rattle.mt_rules.specs.Answers.{Answers};
 ghost use Rattle.mt_pool.specs.Region.{tree_at, Kept};
 ghost use Rattle.mt_store.specs.Held.{store_in, StoreBelow};
-ghost use Rattle.mt_term.specs.Inference.{infer, product_of, sort_of, type_head};
+ghost use Rattle.mt_rules.specs.Inference.{infer, product_of, sort_of, type_head};
 ghost use Rattle.mt_term.specs.Trees.{App, Lam, Prod};
 
 use crate::arguments::instance;
@@ -26,16 +26,16 @@ use mt_term::{Mode, Name, Sort, Stop, deeper};
 use mt_text::{Ledger, Steps};
 use std::alloc::Global;
 
-/// The type of a term, one charge for each term in it. Of calls one inside the other it makes at most `deep`.
+/// The type of a term, one charge for each term in it. Recurses at most `depth_left` levels.
 #[cycle(infer)]
-#[tactic(auto, using(crate::proofs::Held::infer_held, mt_term::proofs::InferenceRules::infer_rules))]
+#[tactic(auto, using(crate::proofs::Held::infer_held, mt_rules_laws::proofs::InferenceRules::infer_rules))]
 pub fn infer<C: Convert, W: Whd, L: Ledger>(
     i: &Inferrer<C, W>,
     alloc: Global,
     w: &mut Work<'_>,
     scope: &Scope<'_>,
     t: TermId,
-    deep: usize,
+    depth_left: usize,
     steps: &mut Steps<L>,
 ) -> Result<TermId, Stop>
     requires held { t.at < length w.old.pool.now }
@@ -46,28 +46,30 @@ pub fn infer<C: Convert, W: Whd, L: Ledger>(
     ensures env { w.new.env ≡ w.old.env }
     ensures store { w.new.store ≡ w.old.store }
     ensures kept { Kept w.old.pool.now w.new.pool.now }
-    ensures outcome { Meets (tree_at w.new.pool.now) (infer (environment_in w.old.pool.now w.old.env.now) (store_in w.old.pool.now w.old.store.now) (scope_in w.old.pool.now scope.now) (tree_at w.old.pool.now t) w.old.left) w.new.left result }
+    ensures outcome { Answers (tree_at w.new.pool.now) (infer (environment_in w.old.pool.now w.old.env.now) (store_in w.old.pool.now w.old.store.now) (scope_in w.old.pool.now scope.now) (tree_at w.old.pool.now t) w.old.left) w.new.left result }
     ensures result_held { IfOk result (λ u. u.at < length w.new.pool.now) }
     ensures cost { steps.new + w.new.left ≡ steps.old + w.old.left }
 {
-    let deep = deeper(deep)?;
+    let depth_left = deeper(depth_left)?;
     match copy_node(alloc, w.pool, t)? {
         Node::Var(at) => infer_variable(alloc, w, scope, at, steps),
         Node::Sort(s) => infer_sort(alloc, w, scope, s, steps),
-        Node::Prod(x, a, b) => infer_product(i, alloc, w, scope, x, a, b, deep, steps),
-        Node::Lam(x, a, b) => infer_abstraction(i, alloc, w, scope, x, a, b, deep, steps),
-        Node::App(f, a) => infer_application(i, alloc, w, scope, f, a, deep, steps),
+        Node::Prod(x, a, b) => infer_product(i, alloc, w, scope, x, a, b, depth_left, steps),
+        Node::Lam(x, a, b) => infer_abstraction(i, alloc, w, scope, x, a, b, depth_left, steps),
+        Node::App(f, a) => infer_application(i, alloc, w, scope, f, a, depth_left, steps),
         Node::Const(c) => infer_constant(alloc, w, scope, c, steps),
         Node::Ind(e) => infer_inductive(alloc, w, scope, e, steps),
         Node::Con(e, k) => infer_constructor(alloc, w, scope, e, k, steps),
-        Node::Match(e, r, c, bs) => infer_match(i, alloc, w, scope, e, r, c, &bs, deep, steps),
-        Node::Meta(n, s) => infer_metavariable(i, alloc, w, scope, n, &s, deep, steps),
+        Node::Match(e, r, c, bs) => infer_match(
+            i, alloc, w, scope, e, r, c, &bs, depth_left, steps,
+        ),
+        Node::Meta(n, s) => infer_metavariable(i, alloc, w, scope, n, &s, depth_left, steps),
     }
 }
 
 /// The type of a product.
 #[cycle(infer)]
-#[tactic(auto, using(crate::proofs::Held::infer_held, mt_term::proofs::InferenceRules::infer_rules))]
+#[tactic(auto, using(crate::proofs::Held::infer_held, mt_rules_laws::proofs::InferenceRules::infer_rules))]
 fn infer_product<C: Convert, W: Whd, L: Ledger>(
     i: &Inferrer<C, W>,
     alloc: Global,
@@ -76,7 +78,7 @@ fn infer_product<C: Convert, W: Whd, L: Ledger>(
     x: Name,
     a: TermId,
     b: TermId,
-    deep: usize,
+    depth_left: usize,
     steps: &mut Steps<L>,
 ) -> Result<TermId, Stop>
     requires domain { a.at < length w.old.pool.now }
@@ -88,22 +90,22 @@ fn infer_product<C: Convert, W: Whd, L: Ledger>(
     ensures env { w.new.env ≡ w.old.env }
     ensures store { w.new.store ≡ w.old.store }
     ensures kept { Kept w.old.pool.now w.new.pool.now }
-    ensures outcome { Meets (tree_at w.new.pool.now) (infer (environment_in w.old.pool.now w.old.env.now) (store_in w.old.pool.now w.old.store.now) (scope_in w.old.pool.now scope.now) (Prod x (tree_at w.old.pool.now a) (tree_at w.old.pool.now b)) w.old.left) w.new.left result }
+    ensures outcome { Answers (tree_at w.new.pool.now) (infer (environment_in w.old.pool.now w.old.env.now) (store_in w.old.pool.now w.old.store.now) (scope_in w.old.pool.now scope.now) (Prod x (tree_at w.old.pool.now a) (tree_at w.old.pool.now b)) w.old.left) w.new.left result }
     ensures result_held { IfOk result (λ u. u.at < length w.new.pool.now) }
     ensures cost { steps.new + w.new.left ≡ steps.old + w.old.left }
 {
-    let deep = deeper(deep)?;
+    let depth_left = deeper(depth_left)?;
     w.charge(steps)?;
-    let s = sort_of(i, alloc, w, scope, a, deep, steps)?;
+    let s = sort_of(i, alloc, w, scope, a, depth_left, steps)?;
     let inner = Scope::More(&x, a, &*scope);
-    let r = sort_of(i, alloc, w, &inner, b, deep, steps)?;
+    let r = sort_of(i, alloc, w, &inner, b, depth_left, steps)?;
     let s = sort_of_product(alloc, s, r)?;
     Ok(w.pool.put(Node::Sort(s))?)
 }
 
 /// The type of an abstraction.
 #[cycle(infer)]
-#[tactic(auto, using(crate::proofs::Held::infer_held, mt_term::proofs::InferenceRules::infer_rules))]
+#[tactic(auto, using(crate::proofs::Held::infer_held, mt_rules_laws::proofs::InferenceRules::infer_rules))]
 fn infer_abstraction<C: Convert, W: Whd, L: Ledger>(
     i: &Inferrer<C, W>,
     alloc: Global,
@@ -112,7 +114,7 @@ fn infer_abstraction<C: Convert, W: Whd, L: Ledger>(
     x: Name,
     a: TermId,
     b: TermId,
-    deep: usize,
+    depth_left: usize,
     steps: &mut Steps<L>,
 ) -> Result<TermId, Stop>
     requires ty { a.at < length w.old.pool.now }
@@ -124,15 +126,15 @@ fn infer_abstraction<C: Convert, W: Whd, L: Ledger>(
     ensures env { w.new.env ≡ w.old.env }
     ensures store { w.new.store ≡ w.old.store }
     ensures kept { Kept w.old.pool.now w.new.pool.now }
-    ensures outcome { Meets (tree_at w.new.pool.now) (infer (environment_in w.old.pool.now w.old.env.now) (store_in w.old.pool.now w.old.store.now) (scope_in w.old.pool.now scope.now) (Lam x (tree_at w.old.pool.now a) (tree_at w.old.pool.now b)) w.old.left) w.new.left result }
+    ensures outcome { Answers (tree_at w.new.pool.now) (infer (environment_in w.old.pool.now w.old.env.now) (store_in w.old.pool.now w.old.store.now) (scope_in w.old.pool.now scope.now) (Lam x (tree_at w.old.pool.now a) (tree_at w.old.pool.now b)) w.old.left) w.new.left result }
     ensures result_held { IfOk result (λ u. u.at < length w.new.pool.now) }
     ensures cost { steps.new + w.new.left ≡ steps.old + w.old.left }
 {
-    let deep = deeper(deep)?;
+    let depth_left = deeper(depth_left)?;
     w.charge(steps)?;
-    sort_of(i, alloc, w, scope, a, deep, steps)?;
+    sort_of(i, alloc, w, scope, a, depth_left, steps)?;
     let inner = Scope::More(&x, a, &*scope);
-    let ty = infer(i, alloc, w, &inner, b, deep, steps)?;
+    let ty = infer(i, alloc, w, &inner, b, depth_left, steps)?;
     Ok(w.pool.put(Node::Prod(x, a, ty))?)
 }
 
@@ -146,7 +148,7 @@ fn infer_application<C: Convert, W: Whd, L: Ledger>(
     scope: &Scope<'_>,
     f: TermId,
     a: TermId,
-    deep: usize,
+    depth_left: usize,
     steps: &mut Steps<L>,
 ) -> Result<TermId, Stop>
     requires function { f.at < length w.old.pool.now }
@@ -158,14 +160,14 @@ fn infer_application<C: Convert, W: Whd, L: Ledger>(
     ensures env { w.new.env ≡ w.old.env }
     ensures store { w.new.store ≡ w.old.store }
     ensures kept { Kept w.old.pool.now w.new.pool.now }
-    ensures outcome { Meets (tree_at w.new.pool.now) (infer (environment_in w.old.pool.now w.old.env.now) (store_in w.old.pool.now w.old.store.now) (scope_in w.old.pool.now scope.now) (App (tree_at w.old.pool.now f) (tree_at w.old.pool.now a)) w.old.left) w.new.left result }
+    ensures outcome { Answers (tree_at w.new.pool.now) (infer (environment_in w.old.pool.now w.old.env.now) (store_in w.old.pool.now w.old.store.now) (scope_in w.old.pool.now scope.now) (App (tree_at w.old.pool.now f) (tree_at w.old.pool.now a)) w.old.left) w.new.left result }
     ensures result_held { IfOk result (λ u. u.at < length w.new.pool.now) }
     ensures cost { steps.new + w.new.left ≡ steps.old + w.old.left }
 {
-    let deep = deeper(deep)?;
+    let depth_left = deeper(depth_left)?;
     w.charge(steps)?;
-    let product = product_of(i, alloc, w, scope, f, deep, steps)?;
-    applied(i, alloc, w, scope, &product, a, deep, steps)
+    let product = product_of(i, alloc, w, scope, f, depth_left, steps)?;
+    applied(i, alloc, w, scope, &product, a, depth_left, steps)
 }
 
 /// The type of a function, whose type is the product, on an argument.
@@ -178,7 +180,7 @@ fn applied<C: Convert, W: Whd, L: Ledger>(
     scope: &Scope<'_>,
     product: &HeldProduct,
     a: TermId,
-    deep: usize,
+    depth_left: usize,
     steps: &mut Steps<L>,
 ) -> Result<TermId, Stop>
     requires product { ProductBelow (length w.old.pool.now) product.now }
@@ -190,26 +192,27 @@ fn applied<C: Convert, W: Whd, L: Ledger>(
     ensures env { w.new.env ≡ w.old.env }
     ensures store { w.new.store ≡ w.old.store }
     ensures kept { Kept w.old.pool.now w.new.pool.now }
-    ensures outcome { Meets (tree_at w.new.pool.now) (applied (environment_in w.old.pool.now w.old.env.now) (store_in w.old.pool.now w.old.store.now) (scope_in w.old.pool.now scope.now) (held w.old.pool.now product.now) (tree_at w.old.pool.now a) w.old.left) w.new.left result }
+    ensures outcome { Answers (tree_at w.new.pool.now) (applied (environment_in w.old.pool.now w.old.env.now) (store_in w.old.pool.now w.old.store.now) (scope_in w.old.pool.now scope.now) (held w.old.pool.now product.now) (tree_at w.old.pool.now a) w.old.left) w.new.left result }
     ensures result_held { IfOk result (λ u. u.at < length w.new.pool.now) }
     ensures cost { steps.new + w.new.left ≡ steps.old + w.old.left }
 {
-    let deep = deeper(deep)?;
-    let ty = infer(i, alloc, w, scope, a, deep, steps)?;
+    let depth_left = deeper(depth_left)?;
+    let ty = infer(i, alloc, w, scope, a, depth_left, steps)?;
     agree(i, alloc, w, scope, Mode::AtMost, ty, product.domain, steps)?;
     Ok(instance(w.pool, alloc, product.codomain, a)?)
 }
 
-/// The sort of a term: its type's weak head, which has to be one. Of calls one inside the other it makes at most `deep`.
+/// The sort of a term: its type's weak head, which has to be one. Recurses at most `depth_left`
+/// levels.
 #[cycle(infer)]
-#[tactic(auto, using(crate::proofs::Held::infer_held, mt_term::proofs::InferenceRules::sort_of_rules))]
+#[tactic(auto, using(crate::proofs::Held::infer_held, mt_rules_laws::proofs::InferenceRules::sort_of_rules))]
 fn sort_of<C: Convert, W: Whd, L: Ledger>(
     i: &Inferrer<C, W>,
     alloc: Global,
     w: &mut Work<'_>,
     scope: &Scope<'_>,
     t: TermId,
-    deep: usize,
+    depth_left: usize,
     steps: &mut Steps<L>,
 ) -> Result<Sort, Stop>
     requires held { t.at < length w.old.pool.now }
@@ -220,24 +223,24 @@ fn sort_of<C: Convert, W: Whd, L: Ledger>(
     ensures env { w.new.env ≡ w.old.env }
     ensures store { w.new.store ≡ w.old.store }
     ensures kept { Kept w.old.pool.now w.new.pool.now }
-    ensures outcome { Meets (λ s. s) (sort_of (environment_in w.old.pool.now w.old.env.now) (store_in w.old.pool.now w.old.store.now) (scope_in w.old.pool.now scope.now) (tree_at w.old.pool.now t) w.old.left) w.new.left result }
+    ensures outcome { Answers (λ s. s) (sort_of (environment_in w.old.pool.now w.old.env.now) (store_in w.old.pool.now w.old.store.now) (scope_in w.old.pool.now scope.now) (tree_at w.old.pool.now t) w.old.left) w.new.left result }
     ensures cost { steps.new + w.new.left ≡ steps.old + w.old.left }
 {
-    let deep = deeper(deep)?;
-    let ty = infer(i, alloc, w, scope, t, deep, steps)?;
+    let depth_left = deeper(depth_left)?;
+    let ty = infer(i, alloc, w, scope, t, depth_left, steps)?;
     as_sort(i, alloc, w, ty, steps)
 }
 
-/// The product that is the type of a term. Of calls one inside the other it makes at most `deep`.
+/// The product that is the type of a term. Recurses at most `depth_left` levels.
 #[cycle(infer)]
-#[tactic(auto, using(crate::proofs::Held::infer_held, mt_term::proofs::InferenceRules::product_of_rules))]
+#[tactic(auto, using(crate::proofs::Held::infer_held, mt_rules_laws::proofs::InferenceRules::product_of_rules))]
 fn product_of<C: Convert, W: Whd, L: Ledger>(
     i: &Inferrer<C, W>,
     alloc: Global,
     w: &mut Work<'_>,
     scope: &Scope<'_>,
     t: TermId,
-    deep: usize,
+    depth_left: usize,
     steps: &mut Steps<L>,
 ) -> Result<HeldProduct, Stop>
     requires held { t.at < length w.old.pool.now }
@@ -248,25 +251,25 @@ fn product_of<C: Convert, W: Whd, L: Ledger>(
     ensures env { w.new.env ≡ w.old.env }
     ensures store { w.new.store ≡ w.old.store }
     ensures kept { Kept w.old.pool.now w.new.pool.now }
-    ensures outcome { Meets (held w.new.pool.now) (product_of (environment_in w.old.pool.now w.old.env.now) (store_in w.old.pool.now w.old.store.now) (scope_in w.old.pool.now scope.now) (tree_at w.old.pool.now t) w.old.left) w.new.left result }
+    ensures outcome { Answers (held w.new.pool.now) (product_of (environment_in w.old.pool.now w.old.env.now) (store_in w.old.pool.now w.old.store.now) (scope_in w.old.pool.now scope.now) (tree_at w.old.pool.now t) w.old.left) w.new.left result }
     ensures result_held { IfOk result (λ k. ProductBelow (length w.new.pool.now) k) }
     ensures cost { steps.new + w.new.left ≡ steps.old + w.old.left }
 {
-    let deep = deeper(deep)?;
-    let ty = infer(i, alloc, w, scope, t, deep, steps)?;
+    let depth_left = deeper(depth_left)?;
+    let ty = infer(i, alloc, w, scope, t, depth_left, steps)?;
     as_product(i, alloc, w, ty, steps)
 }
 
-/// The weak head of a term's type. Of calls one inside the other it makes at most `deep`.
+/// The weak head of a term's type. Recurses at most `depth_left` levels.
 #[cycle(infer)]
-#[tactic(auto, using(crate::proofs::Held::infer_held, mt_term::proofs::InferenceRules::type_head_rules))]
+#[tactic(auto, using(crate::proofs::Held::infer_held, mt_rules_laws::proofs::InferenceRules::type_head_rules))]
 pub fn type_head<C: Convert, W: Whd, L: Ledger>(
     i: &Inferrer<C, W>,
     alloc: Global,
     w: &mut Work<'_>,
     scope: &Scope<'_>,
     t: TermId,
-    deep: usize,
+    depth_left: usize,
     steps: &mut Steps<L>,
 ) -> Result<TermId, Stop>
     requires held { t.at < length w.old.pool.now }
@@ -277,11 +280,11 @@ pub fn type_head<C: Convert, W: Whd, L: Ledger>(
     ensures env { w.new.env ≡ w.old.env }
     ensures store { w.new.store ≡ w.old.store }
     ensures kept { Kept w.old.pool.now w.new.pool.now }
-    ensures outcome { Meets (tree_at w.new.pool.now) (type_head (environment_in w.old.pool.now w.old.env.now) (store_in w.old.pool.now w.old.store.now) (scope_in w.old.pool.now scope.now) (tree_at w.old.pool.now t) w.old.left) w.new.left result }
+    ensures outcome { Answers (tree_at w.new.pool.now) (type_head (environment_in w.old.pool.now w.old.env.now) (store_in w.old.pool.now w.old.store.now) (scope_in w.old.pool.now scope.now) (tree_at w.old.pool.now t) w.old.left) w.new.left result }
     ensures result_held { IfOk result (λ u. u.at < length w.new.pool.now) }
     ensures cost { steps.new + w.new.left ≡ steps.old + w.old.left }
 {
-    let deep = deeper(deep)?;
-    let ty = infer(i, alloc, w, scope, t, deep, steps)?;
+    let depth_left = deeper(depth_left)?;
+    let ty = infer(i, alloc, w, scope, t, depth_left, steps)?;
     i.whd.whd(alloc, w, ty, steps)
 }

@@ -2,17 +2,17 @@
 ghost use Rattle.std.specs.Prelude.{◌≡◌, ◌<◌, ◌+◌, length, IfOk};
 ghost use Rattle.mt_infer.specs.Scopes.{inside, scope_in, ScopeBelow};
 ghost use Rattle.mt_layers.specs.Environments.{environment_in, EnvBelow};
-ghost use Rattle.mt_layers.specs.Meets.{Meets};
+ghost use Rattle.mt_rules.specs.Answers.{Answers};
 ghost use Rattle.mt_pool.specs.HeldOf.{ContextBelow};
 ghost use Rattle.mt_pool.specs.Region.{tree_at, Kept};
 ghost use Rattle.mt_store.specs.Held.{store_in, StoreBelow};
-ghost use Rattle.mt_term.specs.Inference.{infer};
+ghost use Rattle.mt_rules.specs.Inference.{infer};
 
 use crate::inference::infer;
 use crate::scopes::Scope;
 use mt_layers::{Convert, Infer, Whd, Work};
 use mt_pool::{Context, HeldHyp, TermId};
-use mt_term::{MOST_DEEP, Stop, deeper};
+use mt_term::{MAX_DEPTH, Stop, deeper};
 use mt_text::{Ledger, Steps};
 use std::alloc::Global;
 
@@ -30,7 +30,8 @@ impl<C: Convert, W: Whd> Inferrer<C, W> {
     }
 }
 
-/// The type of a term in a context with further hypotheses, the oldest first. Of calls one inside the other it makes at most `deep`.
+/// The type of a term in a context with further hypotheses, the oldest first. Recurses at most
+/// `depth_left` levels.
 #[tactic(auto, using(crate::proofs::Held::infer_held, crate::proofs::Contexts::inside_rules))]
 fn infer_inside<C: Convert, W: Whd, L: Ledger>(
     i: &Inferrer<C, W>,
@@ -39,7 +40,7 @@ fn infer_inside<C: Convert, W: Whd, L: Ledger>(
     hyps: &[HeldHyp],
     scope: &Scope<'_>,
     t: TermId,
-    deep: usize,
+    depth_left: usize,
     steps: &mut Steps<L>,
 ) -> Result<TermId, Stop>
     requires held { t.at < length w.old.pool.now }
@@ -51,16 +52,16 @@ fn infer_inside<C: Convert, W: Whd, L: Ledger>(
     ensures env { w.new.env ≡ w.old.env }
     ensures store { w.new.store ≡ w.old.store }
     ensures kept { Kept w.old.pool.now w.new.pool.now }
-    ensures outcome { Meets (tree_at w.new.pool.now) (infer (environment_in w.old.pool.now w.old.env.now) (store_in w.old.pool.now w.old.store.now) (inside w.old.pool.now hyps.now (scope_in w.old.pool.now scope.now)) (tree_at w.old.pool.now t) w.old.left) w.new.left result }
+    ensures outcome { Answers (tree_at w.new.pool.now) (infer (environment_in w.old.pool.now w.old.env.now) (store_in w.old.pool.now w.old.store.now) (inside w.old.pool.now hyps.now (scope_in w.old.pool.now scope.now)) (tree_at w.old.pool.now t) w.old.left) w.new.left result }
     ensures result_held { IfOk result (λ u. u.at < length w.new.pool.now) }
     ensures cost { steps.new + w.new.left ≡ steps.old + w.old.left }
 {
-    let deep = deeper(deep)?;
+    let depth_left = deeper(depth_left)?;
     match hyps {
-        [] => infer(i, alloc, w, scope, t, MOST_DEEP, steps),
+        [] => infer(i, alloc, w, scope, t, MAX_DEPTH, steps),
         [hyp, more @ ..] => {
             let inner = Scope::More(&hyp.name, hyp.ty, &*scope);
-            infer_inside(i, alloc, w, more, &inner, t, deep, steps)
+            infer_inside(i, alloc, w, more, &inner, t, depth_left, steps)
         }
     }
 }
@@ -82,7 +83,7 @@ impl<C: Convert, W: Whd> Infer for Inferrer<C, W> {
             context.as_slice(),
             &Scope::Empty,
             t,
-            MOST_DEEP,
+            MAX_DEPTH,
             steps,
         )
     }

@@ -3,7 +3,7 @@ ghost use Rattle.std.specs.Prelude.{◌≡◌, ◌+◌, ◌<◌, ℕ, length, Li
 ghost use Rattle.mt_infer.specs.Scopes.{held_type, scope_in, ScopeBelow};
 ghost use Rattle.mt_layers.specs.Environments.{found_in, FoundBelow};
 ghost use Rattle.mt_pool.specs.Region.{Kept};
-ghost use Rattle.mt_term.specs.Inference.{type_at};
+ghost use Rattle.mt_rules.specs.Inference.{type_at};
 ghost use Rattle.mt_term.specs.Trees.{Tree};
 
 use mt_pool::{Pool, TermId};

@@ -1,8 +1,8 @@
 // The sort above one, and the sort of a product.
 ghost use Rattle.std.specs.Prelude.{◌≡◌, IfOk};
-ghost use Rattle.mt_term.specs.Universes.{sort_above, sort_of_product};
+ghost use Rattle.mt_term.specs.UniverseForms.{sort_above, sort_of_product};
 
-use mt_term::{Atoms, OutOfMemory, Sort, UnivExpr, maximum, raised};
+use mt_term::{Atoms, OutOfMemory, Sort, UnivExpr, maximum, successor};
 use std::alloc::Global;
 
 /// The sort that is the type of a sort, where its numbers fit.
@@ -14,7 +14,7 @@ pub fn sort_above(alloc: Global, s: &Sort) -> Result<Option<Sort>, OutOfMemory>
             base: 0,
             atoms: Atoms::new(alloc),
         }))),
-        Sort::Typ(u) => match raised(alloc, u)? {
+        Sort::Typ(u) => match successor(alloc, u)? {
             Some(above) => Ok(Some(Sort::Typ(above))),
             None => Ok(None),
         },

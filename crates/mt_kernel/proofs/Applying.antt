@@ -3,11 +3,12 @@ use Rattle.std.proofs.Common.{ℕ, ◌≡◌, ◌-◌, ◌<◌, ◌≤◌, List,
 use Rattle.mt_term.specs.Trees.{Bytes, Tree, App}
 use Rattle.mt_term.specs.Substitution.{sub, one}
 use Rattle.mt_term.specs.declared.modes.Mode.TheVariants.{AtMost}
-use Rattle.mt_term.specs.Declarations.{Hypothesis, Environment, Reason}
-use Rattle.mt_term.specs.Charges.{Done, Refused, Spent, rest}
+use Rattle.mt_term.specs.Declarations.{Hypothesis, Environment}
+use Rattle.mt_term.specs.Reasons.{Reason}
+use Rattle.mt_rules.specs.Charges.{Done, Refused, Spent, rest}
 use Rattle.mt_term.specs.Stores.{Store}
-use Rattle.mt_term.specs.Inference.{Product, infer, product_of, agreement}
-use Rattle.mt_term.proofs.InferenceRules.{infer-app-arg_spent, infer-app-arg_refused, infer-app-arg_within, infer-app-fit_spent, infer-app-fit_refused, infer-app-fit_within, infer-app-done}
+use Rattle.mt_rules.specs.Inference.{Product, infer, product_of, agreement}
+use Rattle.mt_rules_laws.proofs.InferenceRules.{infer-app-arg_spent, infer-app-arg_refused, infer-app-arg_within, infer-app-fit_spent, infer-app-fit_refused, infer-app-fit_within, infer-app-done}
 
 abbrev parts : Bytes → Tree → Tree → Product
 parts x A B = record { name = x; dom = A; cod = B }

@@ -1,14 +1,15 @@
--- The type of a return function against an arity, by the parts of the products that it is.
+-- The type of a motive against an arity, by the parts of the products that it is.
 use Rattle.std.proofs.Common.{ℕ, ◌≡◌, ◌≤◌, List, ◌∷◌, Bool, true, false, ap, ◌∙◌}
 use Rattle.mt_term.specs.Trees.{Bytes, Tree, Var, Sort, Prod, App}
-use Rattle.mt_term.specs.Substitution.{lift}
+use Rattle.mt_term.specs.Lifting.{lift}
 use Rattle.mt_term.specs.declared.universes.Sort.{Sort as AnySort}
 use Rattle.mt_term.specs.declared.modes.Mode.TheVariants.{Equal}
-use Rattle.mt_term.specs.Declarations.{Hypothesis, Environment, Reason, BadElimination}
-use Rattle.mt_term.specs.Charges.{Done, Refused, Spent, rest}
+use Rattle.mt_term.specs.Declarations.{Hypothesis, Environment}
+use Rattle.mt_term.specs.Reasons.{Reason, BadElimination}
+use Rattle.mt_rules.specs.Charges.{Done, Refused, Spent, rest}
 use Rattle.mt_term.specs.Stores.{no_store}
-use Rattle.mt_term.specs.Inference.{Product, as_product, as_sort, agreement, may_eliminate, eliminating}
-use Rattle.mt_term.proofs.InferenceRules.{as_product-rest, as_sort-rest, agreement-rest, eliminating-rest, eliminating-index-product_spent, eliminating-index-product_refused, eliminating-index-product_within, eliminating-index-index_spent, eliminating-index-index_refused, eliminating-index-index_within, eliminating-index-done, eliminating-last-product_spent, eliminating-last-product_refused, eliminating-last-product_within, eliminating-last-family_spent, eliminating-last-family_refused, eliminating-last-family_within, eliminating-last-sort_spent, eliminating-last-sort_refused, eliminating-last-sort_within, eliminating-last-allowed_none, eliminating-last-done, eliminating-var, eliminating-lam, eliminating-app, eliminating-const, eliminating-ind, eliminating-con, eliminating-match, eliminating-meta}
+use Rattle.mt_rules.specs.Inference.{Product, as_product, as_sort, agreement, may_eliminate, eliminating}
+use Rattle.mt_rules_laws.proofs.InferenceRules.{as_product-rest, as_sort-rest, agreement-rest, eliminating-rest, eliminating-index-product_spent, eliminating-index-product_refused, eliminating-index-product_within, eliminating-index-index_spent, eliminating-index-index_refused, eliminating-index-index_within, eliminating-index-done, eliminating-last-product_spent, eliminating-last-product_refused, eliminating-last-product_within, eliminating-last-family_spent, eliminating-last-family_refused, eliminating-last-family_within, eliminating-last-sort_spent, eliminating-last-sort_refused, eliminating-last-sort_within, eliminating-last-allowed_none, eliminating-last-done, eliminating-var, eliminating-lam, eliminating-app, eliminating-const, eliminating-ind, eliminating-con, eliminating-match, eliminating-meta}
 use Rattle.mt_kernel.proofs.Lists.{raise_one}
 
 abbrev parts : Bytes → Tree → Tree → Product

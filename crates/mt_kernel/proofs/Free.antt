@@ -6,12 +6,12 @@ use Rattle.mt_term.specs.declared.universes.Sort.{Sort as AnySort}
 use Rattle.mt_term.specs.Spines.{at_args}
 use Rattle.mt_term.specs.Substitution.{apps, count}
 use Rattle.mt_term.specs.Declarations.{Hypothesis, Constructor, Environment}
-use Rattle.mt_term.specs.Charges.{Charged, Done, ◌>>=◌}
+use Rattle.mt_rules.specs.Charges.{Charged, Done, ◌>>=◌}
 use Rattle.mt_term.specs.Stores.{no_store, AllMetas, AllMetasArms, Mentions}
-use Rattle.mt_term.specs.Inference.{Family, checked, eliminable, branch_type, branches_fit, branch_context, inferred, inferred_arms, infer, sorted, agrees}
-use Rattle.mt_term.specs.KernelCheck.{check_type, check}
+use Rattle.mt_rules.specs.Inference.{Family, checked, eliminable, branch_type, branches_fit, branch_context, inferred, inferred_arms, infer, sorted, agrees}
+use Rattle.mt_rules.specs.KernelCheck.{check_type, check}
 use Rattle.mt_term.proofs.ReachLaws.{term_of_all}
-use Rattle.mt_term.proofs.Yields.{Yields, gives, refuses, charges, then_yields, so_yields, untrue}
+use Rattle.mt_rules_laws.proofs.Yields.{Yields, gives, refuses, charges, then_yields, so_yields, untrue}
 
 -- none
 abbrev No : ℕ → Type 0

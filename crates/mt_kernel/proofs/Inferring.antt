@@ -5,14 +5,15 @@ use Rattle.mt_term.specs.Trees.{Tree, Trees, Var, Sort, Prod, Lam, App, Const, I
 use Rattle.mt_term.specs.declared.universes.Sort.{Sort as AnySort}
 use Rattle.mt_term.specs.declared.modes.Mode.{Mode}
 use Rattle.mt_term.specs.declared.environment.PlainEnv.{PlainEnv}
-use Rattle.mt_term.specs.Declarations.{Hypothesis, Constructor, Declaration, Environment, Mismatch, NotASort, NotAFunction, Unbound, constructor_at}
-use Rattle.mt_term.specs.Charges.{Done, Refused, rest}
+use Rattle.mt_term.specs.Declarations.{Hypothesis, Constructor, Declaration, Environment, constructor_at}
+use Rattle.mt_term.specs.Reasons.{Mismatch, NotASort, NotAFunction, Unbound}
+use Rattle.mt_rules.specs.Charges.{Done, Refused, rest}
 use Rattle.mt_term.specs.Stores.{Store, no_store}
-use Rattle.mt_term.specs.Universes.{sort_above}
-use Rattle.mt_term.specs.WeakHead.{whd}
-use Rattle.mt_term.specs.Comparison.{convert}
-use Rattle.mt_term.specs.Inference.{Product, a_sort, a_product, type_at, constant_type, inductive_type, constructor_type, infer, as_sort, as_product, agreement}
-use Rattle.mt_term.proofs.InferenceRules.{as_sort_rules, as_product_rules, agreement_rules, infer_rules, as_sort-done, as_product-done, agreement-done, sort_of-rest, product_of-rest, type_head-rest, infer-var_none, infer-var_done, infer-sort_none, infer-sort_done, infer-const_none, infer-const_done, infer-ind_none, infer-ind_done, infer-con_none, infer-con_done, infer-prod-dom_within, infer-lam-type_within, infer-app-fun_within, infer-match-matched_within, infer-meta-meta_none}
+use Rattle.mt_term.specs.UniverseForms.{sort_above}
+use Rattle.mt_rules.specs.WeakHead.{whd}
+use Rattle.mt_rules.specs.Comparison.{convert}
+use Rattle.mt_rules.specs.Inference.{Product, a_sort, a_product, type_at, constant_type, inductive_type, constructor_type, infer, as_sort, as_product, agreement}
+use Rattle.mt_rules_laws.proofs.InferenceRules.{as_sort_rules, as_product_rules, agreement_rules, infer_rules, as_sort-done, as_product-done, agreement-done, sort_of-rest, product_of-rest, type_head-rest, infer-var_none, infer-var_done, infer-sort_none, infer-sort_done, infer-const_none, infer-const_done, infer-ind_none, infer-ind_done, infer-con_none, infer-con_done, infer-prod-dom_within, infer-lam-type_within, infer-app-fun_within, infer-match-matched_within, infer-meta-meta_none}
 use Rattle.mt_kernel.proofs.Applying.{application_rules}
 use Rattle.mt_term.specs.EnvironmentOf.{environment_of}
 use Rattle.mt_kernel.specs.Forms.{sort_in, product_in}

@@ -2,8 +2,9 @@
 use mathlib.Core.Path.{fun_ext}
 use Rattle.std.proofs.Common.{ℕ, zero, suc, ◌≡◌, ◌+◌, ◌-◌, ◌<◌, List, [], ◌∷◌, Some, None, drop, slice_get, refl, sym, ap, ◌∙◌, add-one, arith}
 use Rattle.mt_term.specs.Trees.{Tree, Trees, Item}
-use Rattle.mt_term.specs.Substitution.{all_but, lift, raise, ren}
-use Rattle.mt_term.proofs.Yields.{some_is, nothing}
+use Rattle.mt_term.specs.Substitution.{all_but, ren}
+use Rattle.mt_term.specs.Lifting.{lift, raise}
+use Rattle.mt_rules_laws.proofs.Yields.{some_is, nothing}
 
 pub all_but_more : (n : ℕ) (t : Tree) (s : Trees) → 0 < n → all_but n (Item t s) ≡ all_but (n - 1) s
 all_but_more zero t s h = let no : ⊥ = omega (arith, h) in absurd no

@@ -4,15 +4,16 @@ use Rattle.mt_term.specs.Trees.{Tree, Trees, Arms, Ind, Match, End, Item}
 use Rattle.mt_term.specs.Substitution.{apps, join, count}
 use Rattle.mt_term.specs.declared.environment.PlainEnv.{PlainEnv}
 use Rattle.mt_term.specs.declared.universes.Sort.{Sort as AnySort}
-use Rattle.mt_term.specs.Declarations.{Hypothesis, Constructor, Environment, Reason, BadElimination}
-use Rattle.mt_term.specs.Charges.{Outcome, Charged, Done, Refused, Spent, give, and_then, rest}
-use Rattle.mt_term.specs.Spines.{bullets}
+use Rattle.mt_term.specs.Declarations.{Hypothesis, Constructor, Environment}
+use Rattle.mt_term.specs.Reasons.{Reason, BadElimination}
+use Rattle.mt_rules.specs.Charges.{Outcome, Charged, Done, Refused, Spent, give, and_then, rest}
+use Rattle.mt_term.specs.Spines.{motive_on_all}
 use Rattle.mt_term.specs.Stores.{no_store}
-use Rattle.mt_term.specs.Inference.{Family, only, as_family, branches_fit, checked, eliminable, infer, elimination, eliminating, type_head, infer_arms}
+use Rattle.mt_rules.specs.Inference.{Family, only, as_family, branches_fit, checked, eliminable, infer, elimination, eliminating, type_head, infer_arms}
 use Rattle.mt_term.specs.EnvironmentOf.{environment_of}
-use Rattle.mt_term.proofs.Charged.{then-rest}
-use Rattle.mt_term.proofs.InferenceLaws.{infer-rest, elimination-rest}
-use Rattle.mt_term.proofs.InferenceRules.{eliminating-rest, type_head-rest, infer_arms-rest, infer-out, elimination-type_spent, elimination-type_refused, elimination-type_within, elimination-done, infer-match-matched_spent, infer-match-matched_refused, infer-match-matched_within, infer-match-family_none}
+use Rattle.mt_rules_laws.proofs.Charged.{then-rest}
+use Rattle.mt_rules_laws.proofs.InferenceLaws.{infer-rest, elimination-rest}
+use Rattle.mt_rules_laws.proofs.InferenceRules.{eliminating-rest, type_head-rest, infer_arms-rest, infer-out, elimination-type_spent, elimination-type_refused, elimination-type_within, elimination-done, infer-match-matched_spent, infer-match-matched_refused, infer-match-matched_within, infer-match-family_none}
 use Rattle.mt_kernel.specs.Fitting.{has_branches, match_type}
 
 abbrev family : ℕ → Trees → Trees → Tree → List Constructor → Bool → Family
@@ -47,11 +48,11 @@ module _ (E : Environment) (Γ : List Hypothesis) (e : ℕ) (ps is : Trees) (a :
   abbrev arms_on : ℕ → Outcome (Unit {0})
   arms_on k = infer_arms E no_store Γ (family e ps is a cs large) r zero cs bs k
 
-  after_arms : (k : ℕ) → rest (and_then (arms_on k) (λ z. give (bullets r (join is (Item c End))))) ≤ rest (arms_on k)
-  after_arms k = then-rest (arms_on k) (λ z. give (bullets r (join is (Item c End)))) (λ z l. omega arith)
+  after_arms : (k : ℕ) → rest (and_then (arms_on k) (λ z. give (motive_on_all r (join is (Item c End))))) ≤ rest (arms_on k)
+  after_arms k = then-rest (arms_on k) (λ z. give (motive_on_all r (join is (Item c End)))) (λ z l. omega arith)
 
-  after_sort : (s : AnySort) (k : ℕ) → rest (and_then (checked (branches_fit (count ps) cs bs) k) (λ z l. and_then (arms_on l) (λ z. give (bullets r (join is (Item c End)))))) ≤ k
-  after_sort s k = omega (arith, then-rest (checked (branches_fit (count ps) cs bs) k) (λ z l. and_then (arms_on l) (λ z. give (bullets r (join is (Item c End))))) (λ z l. omega (arith, after_arms l, infer_arms-rest E no_store Γ (family e ps is a cs large) r zero cs bs l)), checked_rest (branches_fit (count ps) cs bs) k)
+  after_sort : (s : AnySort) (k : ℕ) → rest (and_then (checked (branches_fit (count ps) cs bs) k) (λ z l. and_then (arms_on l) (λ z. give (motive_on_all r (join is (Item c End)))))) ≤ k
+  after_sort s k = omega (arith, then-rest (checked (branches_fit (count ps) cs bs) k) (λ z l. and_then (arms_on l) (λ z. give (motive_on_all r (join is (Item c End))))) (λ z l. omega (arith, after_arms l, infer_arms-rest E no_store Γ (family e ps is a cs large) r zero cs bs l)), checked_rest (branches_fit (count ps) cs bs) k)
 
   pub sort_spent : sort_on ≡ Spent → type_on ≡ Spent
   unfolding match_type
@@ -77,9 +78,9 @@ module _ (E : Environment) (Γ : List Hypothesis) (e : ℕ) (ps is : Trees) (a :
     unfitting_within = omega (arith, sort_within, ap rest h)
 
     module _ (g : has_branches ps cs bs ≡ true) where
-      goes_on : type_on ≡ and_then (arms_on k) (λ z. give (bullets r (join is (Item c End))))
+      goes_on : type_on ≡ and_then (arms_on k) (λ z. give (motive_on_all r (join is (Item c End))))
       unfolding match_type has_branches
-      goes_on = on_done _ _ h (ap (λ b. and_then (checked b k) (λ z l. and_then (arms_on l) (λ z. give (bullets r (join is (Item c End)))))) g)
+      goes_on = on_done _ _ h (ap (λ b. and_then (checked b k) (λ z l. and_then (arms_on l) (λ z. give (motive_on_all r (join is (Item c End)))))) g)
 
       pub branches_spent : arms_on k ≡ Spent → type_on ≡ Spent
       branches_spent m = goes_on ∙ on_spent _ _ m
@@ -90,8 +91,8 @@ module _ (E : Environment) (Γ : List Hypothesis) (e : ℕ) (ps is : Trees) (a :
       pub branches_within : rest type_on ≤ rest (arms_on k)
       branches_within = rw goes_on (after_arms k)
 
-      pub match_done : (z : Unit {0}) (j : ℕ) → arms_on k ≡ Done z j → type_on ≡ Done (bullets r (join is (Item c End))) j
-      match_done z j m = goes_on ∙ ap (λ o. and_then o (λ z. give (bullets r (join is (Item c End))))) m
+      pub match_done : (z : Unit {0}) (j : ℕ) → arms_on k ≡ Done z j → type_on ≡ Done (motive_on_all r (join is (Item c End))) j
+      match_done z j m = goes_on ∙ ap (λ o. and_then o (λ z. give (motive_on_all r (join is (Item c End))))) m
 
       -- nothing more is charged after the branches
       pub match_within : (z : Unit {0}) (j : ℕ) → arms_on k ≡ Done z j → rest type_on ≤ j

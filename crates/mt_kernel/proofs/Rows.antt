@@ -1,16 +1,18 @@
 -- A row that no constraint lengthens has the lengths of the longest paths from a name, or the heights and 1.
-use Rattle.std.proofs.Common.{◌≡◌, ℕ, ◌+◌, ◌-◌, ◌<◌, ◌≤◌, max, Bool, true, false, not, ◌||◌, ◌&&◌, List, [], ◌∷◌, length, length-set, slice_index, slice_set, slice_get, get_or, Some, None, Result, Ok, Err, refl, sym, ◌∙◌, ap, subst, inl, inr, arith}
+use Rattle.std.proofs.Common.{◌≡◌, ℕ, zero, suc, ◌+◌, ◌-◌, ◌*◌, ◌<◌, ◌≤◌, max, Bool, true, false, not, ◌||◌, ◌&&◌, List, [], ◌∷◌, length, length-set, slice_index, slice_set, slice_get, get_or, Some, None, refl, sym, ◌∙◌, ap, subst, inl, inr, arith}
 use Rattle.std.proofs.lemmas.Option.{get_or_from_slice_get, slice_get_within, slice_get-get_or}
 use Rattle.std.specs.List.{All, list_all}
-use Rattle.std.proofs.lemmas.Bool.{cases_lt, cases_eq, false≢true, le-leb, lt-leb}
+use Rattle.std.specs.Prelude.{sum, if◌then◌else◌, nat_lt}
+use Rattle.std.proofs.lemmas.Bool.{cases_lt, cases_eq, false≢true, le-leb, lt-leb, lt-ltb, le-ltb}
+use Rattle.std.proofs.lemmas.List.Sums.{sum_by-set, sum_by-le}
 use Rattle.mt_term.specs.declared.universes.Atom.{Atom}
 use Rattle.mt_term.specs.declared.universes.UnivExpr.{UnivExpr}
 use Rattle.mt_term.specs.Universes.{Constraints, Valuation, MeetsAll, value}
 use Rattle.mt_term.specs.UniverseOrder.{joined, path, height, acyclic, covers, is_covered, at_most_by, at_most}
-use Rattle.mt_term.proofs.Images.{none_some}
-use Rattle.mt_term.proofs.UniverseOrderLaws.{joined_cases, acyclic_longest, acyclic_decides}
-use Rattle.std.proofs.lemmas.List.{get_or_past, get_or-set_same, get_or-set_other}
-use Rattle.mt_kernel.specs.Rows.{HasPlaces, IsBounded, IsSettled}
+use Rattle.mt_term.proofs.Options.{none_some}
+use Rattle.mt_universe.proofs.UniverseOrderLaws.{joined_cases, acyclic_longest, acyclic_decides}
+use Rattle.std.proofs.lemmas.List.{get_or_default, get_or_past, get_or-set_same, get_or-set_other}
+use Rattle.mt_kernel.specs.Rows.{HasPlaces, IsBounded, IsSettled, IsShort, IsTooLong}
 
 -- a valuation with the names that have a number in a row above n
 abbrev above : Valuation → ℕ → (ℕ → ℕ) → Valuation
@@ -79,13 +81,6 @@ held_at P xs i x e h = subst P (get_or_from_slice_get xs i x x e) (h i x (slice_
 pub at_none : (xs : List (ℕ × ℕ)) (i : ℕ) → i < length xs → slice_get xs i ≡ None → ⊥
 at_none xs i l e = none_some (sym e ∙ slice_get-get_or xs i (0, 0) l)
 
-abbrev or_false : {B : Type 0} → Result Bool B → Bool
-or_false (Ok a) = a
-or_false (Err e) = false
-
-pub ok_inj : {B : Type 0} {a b : Bool} → ◌≡◌ {A = Result Bool B} (Ok a) (Ok b) → a ≡ b
-ok_inj e = ap or_false e
-
 pub true_not_false : ◌≡◌ {A = Bool} true false → ⊥
 true_not_false e = false≢true (sym e)
 
@@ -122,3 +117,93 @@ too_low cs u w e l = order_by_rows cs u w e ∙ ap (λ b. b && list_all (is_cove
 
 pub by_atoms : (cs : Constraints) (u w : UnivExpr) → acyclic cs ≡ true → u.base ≤ value (height cs) w → at_most cs u w ≡ list_all (is_covered (path cs) w.atoms) u.atoms
 by_atoms cs u w e l = order_by_rows cs u w e ∙ ap (λ b. b && list_all (is_covered (path cs) w.atoms) u.atoms) (le-leb u.base (value (height cs) w) l)
+
+-- how many of the first names have values below a number
+abbrev one : ℕ → ℕ → ℕ
+one a x = if nat_lt a x then 1 else 0
+
+abbrev rank : ℕ → Valuation → ℕ → ℕ
+rank zero v x = 0
+rank (suc n) v x = one (v n) x + rank n v x
+
+one_yes : (a x : ℕ) → a < x → one a x ≡ 1
+one_yes a x l = ap (λ b. if b then 1 else 0) (lt-ltb a x l)
+
+one_no : (a x : ℕ) → x ≤ a → one a x ≡ 0
+one_no a x l = ap (λ b. if b then 1 else 0) (le-ltb a x l)
+
+rank_most : (n : ℕ) (v : Valuation) (x : ℕ) → rank n v x ≤ n
+rank_most zero v x = omega arith
+rank_most (suc n) v x =
+    let r = rank_most n v x in
+    elim (cases_lt (v n) x) [ inl l ↦ omega (arith, one_yes (v n) x l, r) | inr g ↦ omega (arith, one_no (v n) x g, r) ]
+
+rank_grows : (n : ℕ) (v : Valuation) (x y : ℕ) → x ≤ y → rank n v x ≤ rank n v y
+rank_grows zero v x y h = omega arith
+rank_grows (suc n) v x y h =
+    let r = rank_grows n v x y h in
+    elim (cases_lt (v n) x) [
+      | inl l ↦ omega (arith, one_yes (v n) x l, one_yes (v n) y (omega (arith, l, h)), r)
+      | inr g ↦ omega (arith, one_no (v n) x g, r)
+    ]
+
+rank_more : (n : ℕ) (v : Valuation) (a y : ℕ) → a < n → v a < y → rank n v (v a) < rank n v y
+rank_more zero v a y l h = omega arith
+rank_more (suc n) v a y l h =
+    elim (cases_eq a n) [
+      | inl e ↦ (let same : v a ≡ v n = ap v e in
+          omega (arith, one_no (v n) (v a) (omega (arith, same)), one_yes (v n) y (omega (arith, same, h)), rank_grows n v (v a) y (omega (arith, h))))
+      | inr ne ↦ (let r = rank_more n v a y (omega (arith, l, ne)) h in
+          elim (cases_lt (v n) (v a)) [
+            | inl s ↦ omega (arith, one_yes (v n) (v a) s, one_yes (v n) y (omega (arith, s, h)), r)
+            | inr g ↦ omega (arith, one_no (v n) (v a) g, r)
+          ])
+    ]
+
+rank_less : (n : ℕ) (v : Valuation) (a : ℕ) → a < n → rank n v (v a) < n
+rank_less n v a l = omega (arith, rank_more n v a (v a + 1) l (omega arith), rank_most n v (v a + 1))
+
+-- the ranks of names meet what the values meet
+rank_meets : (cs : Constraints) (n : ℕ) (v : Valuation) → HasPlaces cs n → MeetsAll cs v → MeetsAll cs (λ b. rank n v (v b))
+rank_meets cs n v places m k d l = rank_more n v (get_or cs k d).0 (v (get_or cs k d).1) (places k d l).0 (m k d l)
+
+-- so no valuation meets the constraints that make a row too long
+pub too_long : (cs : Constraints) (row : List ℕ) (o : Valuation → ℕ) → HasPlaces cs (length row) → ((v : Valuation) → MeetsAll cs v → IsBounded v (o v) row) → IsTooLong row → acyclic cs ≡ true → ⊥
+too_long cs row o places bound long e =
+    let h = height cs in
+    let n = length row in
+    let v : Valuation = λ b. rank n h (h b) in
+    let b = long.0 in
+    elim (cases_lt b n) [
+      | inl l ↦ (let low : o v + slice_index row b ≤ v b + 1 = bound v (rank_meets cs n h places (acyclic_longest cs e).meet) b (omega (arith, long.1)) in
+          omega (arith, low, rank_less n h b l, long.1))
+      | inr g ↦ omega (arith, get_or_past row b 0 g, long.1)
+    ]
+
+-- a number in a short row is replaced by one that is not too large
+pub short_set : (row : List ℕ) (a x : ℕ) → IsShort row → x ≤ length row + 1 → a < length row → IsShort (slice_set row a x)
+short_set row a x h l i b =
+    elim (cases_eq b a) [
+      | inl e ↦ (let q : slice_index (slice_set row a x) b ≡ x = ap (slice_index (slice_set row a x)) e ∙ get_or-set_same row a x 0 i in omega (arith, q, l, length-set row a x))
+      | inr ne ↦ (let q : slice_index (slice_set row a x) b ≡ slice_index row b = get_or-set_other row a b x 0 ne in omega (arith, q, h b, length-set row a x))
+    ]
+
+pub short_of : (row : List ℕ) (x : ℕ) → ((b : ℕ) → b < length row → slice_index row b ≡ x) → x ≤ 1 → IsShort row
+short_of row x h l b = elim (cases_lt b (length row)) [ inl i ↦ omega (arith, h b i, l) | inr g ↦ omega (arith, get_or_past row b 0 g) ]
+
+-- a larger number makes the sum larger
+pub sum_set : (row : List ℕ) (a x : ℕ) → a < length row → slice_index row a < x → sum row + 1 ≤ sum (slice_set row a x)
+sum_set row a x i l = omega (arith, sum_by-set (λ y. y) row a x 0 i, l)
+
+-- which is at most so much
+pub sum_short : (row : List ℕ) → IsShort row → sum row ≤ length row * (length row + 1)
+sum_short row h = sum_by-le (λ y. y) (length row + 1) row (λ k d l. subst (λ y. y ≤ length row + 1) (sym (get_or_default row k d 0 l)) (h k))
+
+-- the order where no valuation meets the constraints
+pub all_hold : (cs : Constraints) (u w : UnivExpr) → false ≡ acyclic cs → true ≡ at_most cs u w
+unfolding at_most
+all_hold cs u w e = ap (λ b. not b || at_most_by (path cs) (height cs) u w) e
+
+pub not_true : (b : Bool) → (b ≡ true → ⊥) → false ≡ b
+not_true true h = absurd (h refl)
+not_true false h = refl

@@ -3,9 +3,9 @@ use Rattle.std.proofs.Common.{◌≡◌, ℕ}
 use Rattle.mt_term.specs.Trees.{Tree}
 use Rattle.mt_term.specs.declared.universes.Sort.{Sort as AnySort}
 use Rattle.mt_term.specs.Declarations.{Environment}
-use Rattle.mt_term.specs.Charges.{Done}
-use Rattle.mt_term.specs.KernelCheck.{check, check_type}
-use Rattle.mt_term.proofs.ReductionTheorems.{check_law, type_check_law}
+use Rattle.mt_rules.specs.Charges.{Done}
+use Rattle.mt_rules.specs.KernelCheck.{check, check_type}
+use Rattle.mt_rules_laws.proofs.ReductionTheorems.{check_law, type_check_law}
 use Rattle.mt_kernel.specs.Derived.{IsTypeDerived, IsTermDerived}
 use Rattle.mt_kernel.proofs.Free.{no_metas_in_checked, no_metas_in_type}
 

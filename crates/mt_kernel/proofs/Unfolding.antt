@@ -2,12 +2,13 @@
 use Rattle.std.proofs.Common.{ℕ, ◌≡◌, ◌≤◌, Bool, true, false, List, Some, None, slice_get, ap, ◌∙◌}
 use Rattle.mt_term.specs.Trees.{Bytes, Tree, Trees, Const}
 use Rattle.mt_term.specs.Substitution.{apps}
-use Rattle.mt_term.specs.Declarations.{Constructor, Axiom, Definition, Inductive, Recursive, Reason}
-use Rattle.mt_term.specs.Charges.{Done, Refused, Spent, rest}
+use Rattle.mt_term.specs.Declarations.{Constructor, Axiom, Definition, Inductive, Recursive}
+use Rattle.mt_term.specs.Reasons.{Reason}
+use Rattle.mt_rules.specs.Charges.{Done, Refused, Spent, rest}
 use Rattle.mt_term.specs.Spines.{item_at}
 use Rattle.mt_term.specs.Stores.{no_store}
-use Rattle.mt_term.specs.WeakHead.{look, recursive_step, whd}
-use Rattle.mt_term.proofs.WeakHeadRules.{look-missing, look-axiom, look-inductive, look-definition, look-corecursive, look-recursive_past, look-recursive_done, look-recursive_spent, look-recursive_refused, look-recursive_within, look_rules}
+use Rattle.mt_rules.specs.WeakHead.{look, recursive_step, whd}
+use Rattle.mt_rules_laws.proofs.WeakHeadRules.{look-missing, look-axiom, look-inductive, look-definition, look-corecursive, look-recursive_past, look-recursive_done, look-recursive_spent, look-recursive_refused, look-recursive_within, look_rules}
 use Rattle.mt_term.specs.declared.environment.PlainEnv.{PlainEnv}
 use Rattle.mt_term.specs.EnvironmentOf.{environment_of}
 

@@ -1,8 +1,8 @@
 -- What the kernel says on an outcome, and what it charges.
 use Rattle.std.proofs.Common.{ℕ, ◌≡◌, ◌-◌, ap, refl, arith}
-use Rattle.mt_term.specs.Charges.{Outcome, Done, Refused, Spent as Spends, rest}
-use Rattle.mt_term.specs.Declarations.{Reason}
-use Rattle.mt_term.proofs.InferenceLaws.{check-rest, check_type-rest}
+use Rattle.mt_rules.specs.Charges.{Outcome, Done, Refused, Spent as Spends, rest}
+use Rattle.mt_term.specs.Reasons.{Reason}
+use Rattle.mt_rules_laws.proofs.InferenceLaws.{check-rest, check_type-rest}
 use Rattle.mt_kernel.specs.Answers.{Yes, No, Spent, verdict_of, charge_of}
 
 module _ {A : Type 0} (n l : ℕ) (o : Outcome A) where

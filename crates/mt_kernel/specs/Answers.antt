@@ -1,19 +1,11 @@
 -- How what the kernel's calls answer agrees with the definitions.
-use Rattle.std.specs.Prelude.{◌≡◌, ◌≤◌, ℕ, ◌-◌, Result, Ok, Err}
-use Rattle.mt_term.specs.Charges.{Outcome, Done, Refused, Spent as Spends, rest}
-use Rattle.mt_term.specs.Declarations.{Reason}
+use Rattle.std.specs.Prelude.{ℕ, ◌-◌}
+use Rattle.mt_rules.specs.Charges.{Outcome, Done, Refused, Spent as Spends}
+use Rattle.mt_term.specs.Reasons.{Reason}
 use Rattle.mt_term.specs.ReasonOf.{reason_of}
 use Rattle.mt_term.specs.declared.refusals.Stop.{Stop}
-use Rattle.mt_term.specs.declared.refusals.Stop.TheVariants as stop
 use Rattle.mt_kernel.specs.declared.Verdict.{Verdict}
 use Rattle.mt_kernel.specs.declared.Verdict.TheVariants as verdict
-
--- A call answered as the definition does, with this much left; where memory was wanting, at most what the definition charges was charged.
-abbrev pub Answers : {A B : Type 0} → (B → A) → Outcome A → ℕ → Result B Stop → Type 0
-Answers value o left (Ok b) = o ≡ Done (value b) left
-Answers value o left (Err (stop.Refused r)) = o ≡ Refused (reason_of r) left
-Answers value o left (Err stop.Spent) = (o ≡ Spends) × (left ≡ 0)
-Answers value o left (Err stop.OutOfMemory) = rest o ≤ left
 
 -- what the kernel says: yes and its charges, no and why, or that the allowance is spent
 pub data Answer : Type 0 where

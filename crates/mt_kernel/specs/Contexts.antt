@@ -2,7 +2,7 @@
 use Rattle.std.specs.Prelude.{ℕ, zero, List, [], ◌∷◌, Option, Some, None}
 use Rattle.mt_term.specs.Trees.{Tree}
 use Rattle.mt_term.specs.TreeOf.{tree_of}
-use Rattle.mt_term.specs.Substitution.{lift}
+use Rattle.mt_term.specs.Lifting.{lift}
 use Rattle.mt_term.specs.Declarations.{Hypothesis}
 use Rattle.mt_term.specs.declared.terms.Term.{Term}
 use Rattle.mt_kernel.specs.declared.contexts.Context.{Context, Empty, More'}

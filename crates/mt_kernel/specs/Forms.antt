@@ -2,7 +2,7 @@
 use Rattle.std.specs.Prelude.{Option, Some, None}
 use Rattle.mt_term.specs.Trees.{Tree, Sort, Prod}
 use Rattle.mt_term.specs.declared.universes.Sort.{Sort as AnySort}
-use Rattle.mt_term.specs.Inference.{Product}
+use Rattle.mt_rules.specs.Inference.{Product}
 use Rattle.mt_term.specs.TreeOf.{tree_of}
 use Rattle.mt_kernel.specs.declared.expected.Product.{Product as Held}
 

@@ -3,15 +3,17 @@ ghost use Rattle.std.specs.Prelude.{◌≡◌, IfOk};
 ghost use Rattle.mt_kernel.specs.Arguments.{args_of, tree_in};
 ghost use Rattle.mt_term.specs.Seen.{seen_tree};
 ghost use Rattle.mt_term.specs.Spines.{item_at, on_args, put_at};
-ghost use Rattle.mt_term.specs.Substitution.{all_but, apps, count, lift};
+ghost use Rattle.mt_term.specs.Substitution.{all_but, apps, count};
+ghost use Rattle.mt_term.specs.Lifting.{lift};
 ghost use Rattle.mt_term.specs.Trees.{App, Var};
 ghost use Rattle.mt_term.specs.TreeOf.{tree_of, trees_of};
-ghost use Rattle.mt_term.specs.WeakHead.{beta};
+ghost use Rattle.mt_rules.specs.WeakHead.{beta};
 
 use mt_term::{OutOfMemory, Term, Terms, copy, lift, substitute};
 use std::alloc::Global;
 
-/// The arguments of a term, the first of which is the innermost. Who goes down a term under a bound makes them, so they are no more than the bound.
+/// The arguments of a term, the first of which is the innermost. Who goes down a term under a bound
+/// makes them, so they are no more than the bound.
 #[derive(Clone, Copy)]
 pub enum Args<'a> {
     End,

@@ -2,7 +2,7 @@
 ghost use Rattle.std.specs.Prelude.{◌≡◌, ◌+◌, ℕ, IfOk, reverse, slice_get};
 ghost use Rattle.mt_kernel.specs.Arguments.{tree_in};
 ghost use Rattle.mt_kernel.specs.Contexts.{hypotheses_of, lifted_by};
-ghost use Rattle.mt_term.specs.Inference.{lifted_type, type_at};
+ghost use Rattle.mt_rules.specs.Inference.{lifted_type, type_at};
 
 use mt_term::{Hyp, Hyps, Name, OutOfMemory, Term, copy, lift};
 use std::alloc::Global;

@@ -1,9 +1,9 @@
-// Which sort a return function answers in, by its type.
+// Which sort a motive answers in, by its type.
 ghost use Rattle.std.specs.Prelude.{◌≡◌, ◌+◌};
-ghost use Rattle.mt_kernel.specs.Answers.{Answers};
+ghost use Rattle.mt_rules.specs.Answers.{Answers};
 ghost use Rattle.mt_kernel.specs.Contexts.{hypotheses_of};
 ghost use Rattle.mt_term.specs.EnvironmentOf.{environment_of};
-ghost use Rattle.mt_term.specs.Inference.{eliminating, may_eliminate};
+ghost use Rattle.mt_rules.specs.Inference.{eliminating, may_eliminate};
 ghost use Rattle.mt_term.specs.Stores.{no_store};
 ghost use Rattle.mt_term.specs.TreeOf.{tree_of};
 
@@ -25,9 +25,10 @@ fn may_eliminate(large: bool, from: &Sort, into: &Sort) -> bool
     }
 }
 
-/// The sort that a return function of type `ty` answers in: `ty` has to be products over the indices of `arity`, and over `family` on them, into a sort that is allowed.
+/// The sort that a motive of type `ty` answers in: `ty` has to be products over the indices of
+/// `arity`, and over `family` on them, into a sort that is allowed.
 #[tactic(auto, using(crate::proofs::Eliminating::eliminating_rules))]
-pub fn eliminated<L: Ledger>(
+pub fn elimination_sort<L: Ledger>(
     alloc: Global,
     env: &PlainEnv,
     context: &Context<'_>,
@@ -36,17 +37,17 @@ pub fn eliminated<L: Ledger>(
     family: &Term,
     ty: Term,
     left: &mut u64,
-    deep: usize,
+    depth_left: usize,
     steps: &mut Steps<L>,
 ) -> Result<Sort, Stop>
     ensures answer { Answers (λ s. s) (eliminating (environment_of env.now) no_store (hypotheses_of context.now) large (tree_of arity.now) (tree_of family.now) (tree_of ty) left.old) left.new result }
     ensures cost { steps.new + left.new ≡ steps.old + left.old }
 {
     let _left = *left;
-    let deep = deeper(deep)?;
+    let depth_left = deeper(depth_left)?;
     match arity {
         Term::Prod(_, index, rest) => {
-            let product = as_product(alloc, env, ty, left, deep, steps)?;
+            let product = as_product(alloc, env, ty, left, depth_left, steps)?;
             let domain = copy(alloc, &product.domain)?;
             agree(
                 alloc,
@@ -56,18 +57,18 @@ pub fn eliminated<L: Ledger>(
                 domain,
                 index,
                 left,
-                deep,
+                depth_left,
                 steps,
             )?;
             let on_index = on_newest(alloc, family)?;
             let codomain = copy(alloc, &product.codomain)?;
             let inner = Context::More(&product.name, &product.domain, &*context);
-            eliminated(
-                alloc, env, &inner, large, rest, &on_index, codomain, left, deep, steps,
+            elimination_sort(
+                alloc, env, &inner, large, rest, &on_index, codomain, left, depth_left, steps,
             )
         }
         Term::Sort(from) => {
-            let product = as_product(alloc, env, ty, left, deep, steps)?;
+            let product = as_product(alloc, env, ty, left, depth_left, steps)?;
             let domain = copy(alloc, &product.domain)?;
             agree(
                 alloc,
@@ -77,11 +78,11 @@ pub fn eliminated<L: Ledger>(
                 domain,
                 family,
                 left,
-                deep,
+                depth_left,
                 steps,
             )?;
             let codomain = copy(alloc, &product.codomain)?;
-            let into = as_sort(alloc, env, codomain, left, deep, steps)?;
+            let into = as_sort(alloc, env, codomain, left, depth_left, steps)?;
             if !may_eliminate(large, from, &into) {
                 return Err(Stop::Refused(Refusal::BadElimination));
             }

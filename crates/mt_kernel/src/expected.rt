@@ -1,10 +1,10 @@
 // What a type has to be: a sort, a product, or a type that agrees with another.
 ghost use Rattle.std.specs.Prelude.{◌≡◌, ◌+◌, []};
-ghost use Rattle.mt_kernel.specs.Answers.{Answers};
+ghost use Rattle.mt_rules.specs.Answers.{Answers};
 ghost use Rattle.mt_kernel.specs.Contexts.{hypotheses_of};
 ghost use Rattle.mt_kernel.specs.Forms.{held, held_in, product_in, sort_in};
 ghost use Rattle.mt_term.specs.EnvironmentOf.{environment_of};
-ghost use Rattle.mt_term.specs.Inference.{agreement, as_product, as_sort};
+ghost use Rattle.mt_rules.specs.Inference.{agreement, as_product, as_sort};
 ghost use Rattle.mt_term.specs.Stores.{no_store};
 ghost use Rattle.mt_term.specs.TreeOf.{tree_of};
 
@@ -30,13 +30,13 @@ pub fn as_sort<L: Ledger>(
     env: &PlainEnv,
     t: Term,
     left: &mut u64,
-    deep: usize,
+    depth_left: usize,
     steps: &mut Steps<L>,
 ) -> Result<Sort, Stop>
     ensures answer { Answers (λ s. s) (as_sort (environment_of env.now) no_store (tree_of t) left.old) left.new result }
     ensures cost { steps.new + left.new ≡ steps.old + left.old }
 {
-    let head = whd(alloc, env, t, left, deep, steps)?;
+    let head = whd(alloc, env, t, left, depth_left, steps)?;
     sort_in(head).ok_or(Stop::Refused(Refusal::NotASort))
 }
 
@@ -56,13 +56,13 @@ pub fn as_product<L: Ledger>(
     env: &PlainEnv,
     t: Term,
     left: &mut u64,
-    deep: usize,
+    depth_left: usize,
     steps: &mut Steps<L>,
 ) -> Result<Product, Stop>
     ensures answer { Answers held (as_product (environment_of env.now) no_store (tree_of t) left.old) left.new result }
     ensures cost { steps.new + left.new ≡ steps.old + left.old }
 {
-    let head = whd(alloc, env, t, left, deep, steps)?;
+    let head = whd(alloc, env, t, left, depth_left, steps)?;
     product_in(head).ok_or(Stop::Refused(Refusal::NotAFunction))
 }
 
@@ -89,13 +89,15 @@ pub fn agree<L: Ledger>(
     inferred: Term,
     expected: &Term,
     left: &mut u64,
-    deep: usize,
+    depth_left: usize,
     steps: &mut Steps<L>,
 ) -> Result<(), Stop>
     ensures answer { Answers (λ a. a) (agreement (environment_of env.now) no_store (hypotheses_of context.now) mode (tree_of inferred) (tree_of expected.now) left.old) left.new result }
     ensures cost { steps.new + left.new ≡ steps.old + left.old }
 {
-    if convert(alloc, env, mode, &inferred, expected, left, deep, steps)? {
+    if convert(
+        alloc, env, mode, &inferred, expected, left, depth_left, steps,
+    )? {
         return Ok(());
     }
     Err(Stop::Refused(Refusal::Mismatch {

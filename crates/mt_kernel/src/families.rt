@@ -3,7 +3,7 @@ ghost use Rattle.std.specs.Prelude.{◌≡◌, IfOk};
 ghost use Rattle.mt_kernel.specs.Arguments.{args_of, tree_in};
 ghost use Rattle.mt_kernel.specs.Families.{family_in, trees_in};
 ghost use Rattle.mt_term.specs.EntryOf.{seen_declaration};
-ghost use Rattle.mt_term.specs.Inference.{as_family, family_of, family_on, only};
+ghost use Rattle.mt_rules.specs.Inference.{as_family, family_of, family_on, only};
 ghost use Rattle.mt_term.specs.Spines.{as_ind, at_args, first_of};
 ghost use Rattle.mt_term.specs.Substitution.{apps};
 ghost use Rattle.mt_term.specs.TreeOf.{tree_of, trees_of};
@@ -13,7 +13,8 @@ use crate::matching::products;
 use mt_term::{Cons, Entries, Entry, OutOfMemory, Term, Terms, copy, deeper, substitute};
 use std::alloc::Global;
 
-/// An inductive type on its parameters and indices: its number, these, its type at the parameters, its constructors, and whether it is large.
+/// An inductive type on its parameters and indices: its number, these, its type at the parameters,
+/// its constructors, and whether it is large.
 #[derive(Drop)]
 pub struct Family<'a> {
     pub number: usize,
@@ -30,11 +31,11 @@ pub fn family_numbered<'a>(
     entries: &'a Entries,
     number: usize,
     t: &Term,
-    deep: usize,
+    depth_left: usize,
 ) -> Result<Option<Family<'a>>, OutOfMemory>
     ensures { IfOk result (λ o. family_in o ≡ only number (as_family entries.now (tree_of t.now))) }
 {
-    match family_on(alloc, entries, t, &Args::End, deep)? {
+    match family_on(alloc, entries, t, &Args::End, depth_left)? {
         None => Ok(None),
         Some(family) => {
             if family.number != number {
@@ -51,14 +52,14 @@ fn family_on<'a>(
     entries: &'a Entries,
     t: &Term,
     args: &Args<'_>,
-    deep: usize,
+    depth_left: usize,
 ) -> Result<Option<Family<'a>>, OutOfMemory>
     ensures { IfOk result (λ o. family_in o ≡ family_on entries.now (as_ind (tree_of t.now) (args_of args.now))) }
 {
-    let deep = deeper(deep)?;
+    let depth_left = deeper(depth_left)?;
     match t {
-        Term::App(f, a) => family_on(alloc, entries, &*f, &Args::More(&*a, &*args), deep),
-        Term::Ind(e) => family_of(alloc, *e, args, entries.get(*e), deep),
+        Term::App(f, a) => family_on(alloc, entries, &*f, &Args::More(&*a, &*args), depth_left),
+        Term::Ind(e) => family_of(alloc, *e, args, entries.get(*e), depth_left),
         _ => Ok(None),
     }
 }
@@ -69,7 +70,7 @@ fn family_of<'a>(
     number: usize,
     args: &Args<'_>,
     entry: Option<&'a Entry>,
-    deep: usize,
+    depth_left: usize,
 ) -> Result<Option<Family<'a>>, OutOfMemory>
     ensures { IfOk result (λ o. family_in o ≡ family_of number (args_of args.now) (seen_declaration entry.entry)) }
 {
@@ -83,13 +84,13 @@ fn family_of<'a>(
                 ..
             },
         ) => {
-            if count(args)? != products(ty, deep)? {
+            if count(args)? != products(ty, depth_left)? {
                 return Ok(None);
             }
             let Some(first) = first_of(alloc, args, *params)? else {
                 return Ok(None);
             };
-            let Some(arity) = at_args(alloc, copy(alloc, ty)?, &first, deep)? else {
+            let Some(arity) = at_args(alloc, copy(alloc, ty)?, &first, depth_left)? else {
                 return Ok(None);
             };
             Ok(Some(Family {
@@ -133,17 +134,17 @@ pub fn at_args(
     alloc: Global,
     ty: Term,
     terms: &Terms,
-    deep: usize,
+    depth_left: usize,
 ) -> Result<Option<Term>, OutOfMemory>
     ensures { IfOk result (λ o. tree_in o ≡ at_args (tree_of ty) (trees_of terms.now)) }
 {
-    let deep = deeper(deep)?;
+    let depth_left = deeper(depth_left)?;
     match terms {
         Terms::End => Ok(Some(ty)),
         Terms::Item(u, rest) => match ty {
             Term::Prod(_, _, codomain) => {
                 let ty = substitute(alloc, &codomain, 0, u)?;
-                at_args(alloc, ty, rest, deep)
+                at_args(alloc, ty, rest, depth_left)
             }
             _ => Ok(None),
         },
@@ -151,16 +152,21 @@ pub fn at_args(
 }
 
 /// The term on the terms.
-pub fn apply_all(alloc: Global, t: Term, terms: &Terms, deep: usize) -> Result<Term, OutOfMemory>
+pub fn apply_all(
+    alloc: Global,
+    t: Term,
+    terms: &Terms,
+    depth_left: usize,
+) -> Result<Term, OutOfMemory>
     ensures { IfOk result (λ u. tree_of u ≡ apps (tree_of t) (trees_of terms.now)) }
 {
-    let deep = deeper(deep)?;
+    let depth_left = deeper(depth_left)?;
     match terms {
         Terms::End => Ok(t),
         Terms::Item(a, rest) => {
             let f = Box::new(alloc, t)?;
             let a = Box::new(alloc, copy(alloc, a)?)?;
-            apply_all(alloc, Term::App(f, a), rest, deep)
+            apply_all(alloc, Term::App(f, a), rest, depth_left)
         }
     }
 }

@@ -1,6 +1,6 @@
 // The inference of types.
 ghost use Rattle.std.specs.Prelude.{◌≡◌, ◌+◌, IfOk, drop};
-ghost use Rattle.mt_kernel.specs.Answers.{Answers};
+ghost use Rattle.mt_rules.specs.Answers.{Answers};
 ghost use Rattle.mt_kernel.specs.Arguments.{tree_in};
 ghost use Rattle.mt_kernel.specs.Contexts.{hypotheses_of};
 ghost use Rattle.mt_kernel.specs.Families.{family_held};
@@ -9,15 +9,15 @@ ghost use Rattle.mt_kernel.specs.Forms.{held};
 ghost use Rattle.mt_term.specs.ConstructorOf.{seen_constructor};
 ghost use Rattle.mt_term.specs.EntryOf.{seen_declaration};
 ghost use Rattle.mt_term.specs.EnvironmentOf.{environment_of};
-ghost use Rattle.mt_term.specs.Inference.{branch_context, constant_type, constructor_type, elimination, inductive_type, infer, infer_arms, product_of, sort_of, type_head};
+ghost use Rattle.mt_rules.specs.Inference.{branch_context, constant_type, constructor_type, elimination, inductive_type, infer, infer_arms, product_of, sort_of, type_head};
 ghost use Rattle.mt_term.specs.Stores.{no_store};
 ghost use Rattle.mt_term.specs.TreeOf.{arms_of, tree_of, trees_of};
 ghost use Rattle.mt_term.specs.Trees.{App, Con, Const, Ind, Lam, Match, Prod, Sort as SortTree, Var};
 
-use crate::branches::{branch_goal, bullets, has_branches};
+use crate::branches::{branch_goal, has_branches, motive_on_all};
 use crate::charges::charge;
 use crate::contexts::{Context, type_at};
-use crate::elimination::eliminated;
+use crate::elimination::elimination_sort;
 use crate::expected::{Product, agree, as_product, as_sort};
 use crate::families::{Family, apply_all, family_numbered};
 use crate::matching::constructor_at;
@@ -30,7 +30,7 @@ use mt_term::{
 use mt_text::{Ledger, Steps};
 use std::alloc::Global;
 
-/// The type of a term, one charge for each term in it. Of calls one inside the other it makes at most `deep`.
+/// The type of a term, one charge for each term in it. Recurses at most `depth_left` levels.
 #[cycle(infer)]
 #[tactic(auto, using(crate::proofs::Inferring::inference_rules))]
 pub fn infer<L: Ledger>(
@@ -39,25 +39,27 @@ pub fn infer<L: Ledger>(
     context: &Context<'_>,
     t: &Term,
     left: &mut u64,
-    deep: usize,
+    depth_left: usize,
     steps: &mut Steps<L>,
 ) -> Result<Term, Stop>
     ensures answer { Answers tree_of (infer (environment_of env.now) no_store (hypotheses_of context.now) (tree_of t.now) left.old) left.new result }
     ensures cost { steps.new + left.new ≡ steps.old + left.old }
 {
     let _left = *left;
-    let deep = deeper(deep)?;
+    let depth_left = deeper(depth_left)?;
     match t {
         Term::Var(i) => infer_variable(alloc, env, context, *i, left, steps),
         Term::Sort(s) => infer_sort(alloc, env, context, s, left, steps),
-        Term::Prod(x, a, b) => infer_product(alloc, env, context, x, a, b, left, deep, steps),
-        Term::Lam(x, a, b) => infer_abstraction(alloc, env, context, x, a, b, left, deep, steps),
-        Term::App(f, a) => infer_application(alloc, env, context, f, a, left, deep, steps),
+        Term::Prod(x, a, b) => infer_product(alloc, env, context, x, a, b, left, depth_left, steps),
+        Term::Lam(x, a, b) => infer_abstraction(
+            alloc, env, context, x, a, b, left, depth_left, steps,
+        ),
+        Term::App(f, a) => infer_application(alloc, env, context, f, a, left, depth_left, steps),
         Term::Const(n) => infer_constant(alloc, env, context, *n, left, steps),
         Term::Ind(e) => infer_inductive(alloc, env, context, *e, left, steps),
         Term::Con(e, k) => infer_constructor(alloc, env, context, *e, *k, left, steps),
         Term::Match(number, returns, c, branches) => infer_match(
-            alloc, env, context, *number, returns, c, branches, left, deep, steps,
+            alloc, env, context, *number, returns, c, branches, left, depth_left, steps,
         ),
         Term::Meta(..) => {
             // there is no metavariable
@@ -190,7 +192,7 @@ fn infer_product<L: Ledger>(
     a: &Term,
     b: &Term,
     left: &mut u64,
-    deep: usize,
+    depth_left: usize,
     steps: &mut Steps<L>,
 ) -> Result<Term, Stop>
     ensures answer { Answers tree_of (infer (environment_of env.now) no_store (hypotheses_of context.now) (Prod x.now (tree_of a.now) (tree_of b.now)) left.old) left.new result }
@@ -198,9 +200,9 @@ fn infer_product<L: Ledger>(
 {
     let _left = *left;
     charge(left, steps)?;
-    let s = sort_of(alloc, env, context, a, left, deep, steps)?;
+    let s = sort_of(alloc, env, context, a, left, depth_left, steps)?;
     let inner = Context::More(x, a, &*context);
-    let r = sort_of(alloc, env, &inner, b, left, deep, steps)?;
+    let r = sort_of(alloc, env, &inner, b, left, depth_left, steps)?;
     Ok(Term::Sort(sort_of_product(alloc, s, r)?))
 }
 
@@ -216,18 +218,18 @@ fn infer_abstraction<L: Ledger>(
     a: &Term,
     b: &Term,
     left: &mut u64,
-    deep: usize,
+    depth_left: usize,
     steps: &mut Steps<L>,
 ) -> Result<Term, Stop>
     ensures answer { Answers tree_of (infer (environment_of env.now) no_store (hypotheses_of context.now) (Lam x.now (tree_of a.now) (tree_of b.now)) left.old) left.new result }
     ensures cost { steps.new + left.new ≡ steps.old + left.old }
 {
     let _left = *left;
-    let deep = deeper(deep)?;
+    let depth_left = deeper(depth_left)?;
     charge(left, steps)?;
-    sort_of(alloc, env, context, a, left, deep, steps)?;
+    sort_of(alloc, env, context, a, left, depth_left, steps)?;
     let inner = Context::More(x, a, &*context);
-    let ty = infer(alloc, env, &inner, b, left, deep, steps)?;
+    let ty = infer(alloc, env, &inner, b, left, depth_left, steps)?;
     Ok(product_to(alloc, x, a, ty)?)
 }
 
@@ -242,7 +244,7 @@ fn infer_application<L: Ledger>(
     f: &Term,
     a: &Term,
     left: &mut u64,
-    deep: usize,
+    depth_left: usize,
     steps: &mut Steps<L>,
 ) -> Result<Term, Stop>
     ensures answer { Answers tree_of (infer (environment_of env.now) no_store (hypotheses_of context.now) (App (tree_of f.now) (tree_of a.now)) left.old) left.new result }
@@ -250,8 +252,8 @@ fn infer_application<L: Ledger>(
 {
     let _left = *left;
     charge(left, steps)?;
-    let product = product_of(alloc, env, context, f, left, deep, steps)?;
-    let ty = infer(alloc, env, context, a, left, deep, steps)?;
+    let product = product_of(alloc, env, context, f, left, depth_left, steps)?;
+    let ty = infer(alloc, env, context, a, left, depth_left, steps)?;
     let domain = &product.domain;
     agree(
         alloc,
@@ -261,7 +263,7 @@ fn infer_application<L: Ledger>(
         ty,
         domain,
         left,
-        deep,
+        depth_left,
         steps,
     )?;
     Ok(substitute(alloc, &product.codomain, 0, a)?)
@@ -322,64 +324,64 @@ fn constructor_type(
 
 /// The sort of a term: its type's weak head, which has to be one.
 #[cycle(infer)]
-#[tactic(auto, using(mt_term::proofs::InferenceRules::sort_of_rules))]
+#[tactic(auto, using(mt_rules_laws::proofs::InferenceRules::sort_of_rules))]
 pub fn sort_of<L: Ledger>(
     alloc: Global,
     env: &PlainEnv,
     context: &Context<'_>,
     t: &Term,
     left: &mut u64,
-    deep: usize,
+    depth_left: usize,
     steps: &mut Steps<L>,
 ) -> Result<Sort, Stop>
     ensures answer { Answers (λ s. s) (sort_of (environment_of env.now) no_store (hypotheses_of context.now) (tree_of t.now) left.old) left.new result }
     ensures cost { steps.new + left.new ≡ steps.old + left.old }
 {
     let _left = *left;
-    let deep = deeper(deep)?;
-    let ty = infer(alloc, env, context, t, left, deep, steps)?;
-    as_sort(alloc, env, ty, left, deep, steps)
+    let depth_left = deeper(depth_left)?;
+    let ty = infer(alloc, env, context, t, left, depth_left, steps)?;
+    as_sort(alloc, env, ty, left, depth_left, steps)
 }
 
 #[cycle(infer)]
-#[tactic(auto, using(mt_term::proofs::InferenceRules::product_of_rules))]
+#[tactic(auto, using(mt_rules_laws::proofs::InferenceRules::product_of_rules))]
 fn product_of<L: Ledger>(
     alloc: Global,
     env: &PlainEnv,
     context: &Context<'_>,
     t: &Term,
     left: &mut u64,
-    deep: usize,
+    depth_left: usize,
     steps: &mut Steps<L>,
 ) -> Result<Product, Stop>
     ensures answer { Answers held (product_of (environment_of env.now) no_store (hypotheses_of context.now) (tree_of t.now) left.old) left.new result }
     ensures cost { steps.new + left.new ≡ steps.old + left.old }
 {
     let _left = *left;
-    let deep = deeper(deep)?;
-    let ty = infer(alloc, env, context, t, left, deep, steps)?;
-    as_product(alloc, env, ty, left, deep, steps)
+    let depth_left = deeper(depth_left)?;
+    let ty = infer(alloc, env, context, t, left, depth_left, steps)?;
+    as_product(alloc, env, ty, left, depth_left, steps)
 }
 
 /// The weak head of a term's type.
 #[cycle(infer)]
-#[tactic(auto, using(mt_term::proofs::InferenceRules::type_head_rules))]
+#[tactic(auto, using(mt_rules_laws::proofs::InferenceRules::type_head_rules))]
 fn type_head<L: Ledger>(
     alloc: Global,
     env: &PlainEnv,
     context: &Context<'_>,
     t: &Term,
     left: &mut u64,
-    deep: usize,
+    depth_left: usize,
     steps: &mut Steps<L>,
 ) -> Result<Term, Stop>
     ensures answer { Answers tree_of (type_head (environment_of env.now) no_store (hypotheses_of context.now) (tree_of t.now) left.old) left.new result }
     ensures cost { steps.new + left.new ≡ steps.old + left.old }
 {
     let _left = *left;
-    let deep = deeper(deep)?;
-    let ty = infer(alloc, env, context, t, left, deep, steps)?;
-    whd(alloc, env, ty, left, deep, steps)
+    let depth_left = deeper(depth_left)?;
+    let ty = infer(alloc, env, context, t, left, depth_left, steps)?;
+    whd(alloc, env, ty, left, depth_left, steps)
 }
 
 /// The type of a match, with its own charge.
@@ -394,21 +396,21 @@ fn infer_match<L: Ledger>(
     c: &Term,
     branches: &Branches,
     left: &mut u64,
-    deep: usize,
+    depth_left: usize,
     steps: &mut Steps<L>,
 ) -> Result<Term, Stop>
     ensures answer { Answers tree_of (infer (environment_of env.now) no_store (hypotheses_of context.now) (Match number (tree_of returns.now) (tree_of c.now) (arms_of branches.now)) left.old) left.new result }
     ensures cost { steps.new + left.new ≡ steps.old + left.old }
 {
     let _left = *left;
-    let deep = deeper(deep)?;
+    let depth_left = deeper(depth_left)?;
     charge(left, steps)?;
-    let head = type_head(alloc, env, context, c, left, deep, steps)?;
-    let Some(family) = family_numbered(alloc, &env.entries, number, &head, deep)? else {
+    let head = type_head(alloc, env, context, c, left, depth_left, steps)?;
+    let Some(family) = family_numbered(alloc, &env.entries, number, &head, depth_left)? else {
         return Err(Stop::Refused(Refusal::BadElimination));
     };
     match_type(
-        alloc, env, context, &family, returns, c, branches, left, deep, steps,
+        alloc, env, context, &family, returns, c, branches, left, depth_left, steps,
     )
 }
 
@@ -424,25 +426,27 @@ fn match_type<L: Ledger>(
     c: &Term,
     branches: &Branches,
     left: &mut u64,
-    deep: usize,
+    depth_left: usize,
     steps: &mut Steps<L>,
 ) -> Result<Term, Stop>
     ensures answer { Answers tree_of (match_type (environment_of env.now) (hypotheses_of context.now) (family_held family.now) (tree_of returns.now) (tree_of c.now) (arms_of branches.now) left.old) left.new result }
     ensures cost { steps.new + left.new ≡ steps.old + left.old }
 {
     let _left = *left;
-    let deep = deeper(deep)?;
-    elimination(alloc, env, context, family, returns, left, deep, steps)?;
-    if !has_branches(&family.params, family.constructors, branches, deep)? {
+    let depth_left = deeper(depth_left)?;
+    elimination(
+        alloc, env, context, family, returns, left, depth_left, steps,
+    )?;
+    if !has_branches(&family.params, family.constructors, branches, depth_left)? {
         return Err(Stop::Refused(Refusal::BadElimination));
     }
     infer_branches(
-        alloc, env, context, family, returns, 0, branches, left, deep, steps,
+        alloc, env, context, family, returns, 0, branches, left, depth_left, steps,
     )?;
-    Ok(bullets(alloc, copy(alloc, returns)?, &family.indices, c, deep)?)
+    Ok(motive_on_all(alloc, copy(alloc, returns)?, &family.indices, c, depth_left)?)
 }
 
-/// The sort that a return function answers in.
+/// The sort that a motive answers in.
 #[cycle(infer)]
 #[tactic(auto, using(crate::proofs::Matches::elimination_rules))]
 fn elimination<L: Ledger>(
@@ -452,17 +456,17 @@ fn elimination<L: Ledger>(
     family: &Family<'_>,
     returns: &Term,
     left: &mut u64,
-    deep: usize,
+    depth_left: usize,
     steps: &mut Steps<L>,
 ) -> Result<Sort, Stop>
     ensures answer { Answers (λ s. s) (elimination (environment_of env.now) no_store (hypotheses_of context.now) (family_held family.now) (tree_of returns.now) left.old) left.new result }
     ensures cost { steps.new + left.new ≡ steps.old + left.old }
 {
     let _left = *left;
-    let deep = deeper(deep)?;
-    let ty = infer(alloc, env, context, returns, left, deep, steps)?;
-    let on_params = apply_all(alloc, Term::Ind(family.number), &family.params, deep)?;
-    eliminated(
+    let depth_left = deeper(depth_left)?;
+    let ty = infer(alloc, env, context, returns, left, depth_left, steps)?;
+    let on_params = apply_all(alloc, Term::Ind(family.number), &family.params, depth_left)?;
+    elimination_sort(
         alloc,
         env,
         context,
@@ -471,7 +475,7 @@ fn elimination<L: Ledger>(
         &on_params,
         ty,
         left,
-        deep,
+        depth_left,
         steps,
     )
 }
@@ -488,14 +492,14 @@ fn infer_branches<L: Ledger>(
     k: usize,
     branches: &Branches,
     left: &mut u64,
-    deep: usize,
+    depth_left: usize,
     steps: &mut Steps<L>,
 ) -> Result<(), Stop>
     ensures answer { Answers (λ a. a) (infer_arms (environment_of env.now) no_store (hypotheses_of context.now) (family_held family.now) (tree_of returns.now) k (drop k family.now.constructors.now) (arms_of branches.now) left.old) left.new result }
     ensures cost { steps.new + left.new ≡ steps.old + left.old }
 {
     let _left = *left;
-    let deep = deeper(deep)?;
+    let depth_left = deeper(depth_left)?;
     let Branches::Item(branch, rest) = branches else {
         return Ok(());
     };
@@ -513,12 +517,12 @@ fn infer_branches<L: Ledger>(
         &constructor.ty,
         branch,
         left,
-        deep,
+        depth_left,
         steps,
     )?;
     let next = k.checked_add(1).ok_or(OutOfMemory)?;
     infer_branches(
-        alloc, env, context, family, returns, next, rest, left, deep, steps,
+        alloc, env, context, family, returns, next, rest, left, depth_left, steps,
     )
 }
 
@@ -536,16 +540,16 @@ fn infer_branch<L: Ledger>(
     ty: &Term,
     branch: &Branch,
     left: &mut u64,
-    deep: usize,
+    depth_left: usize,
     steps: &mut Steps<L>,
 ) -> Result<(), Stop>
     ensures answer { Answers (λ a. a) (branch_fits (environment_of env.now) (hypotheses_of context.now) number (trees_of params.now) (tree_of returns.now) k (tree_of ty.now) branch.now.names (tree_of branch.now.body) left.old) left.new result }
     ensures cost { steps.new + left.new ≡ steps.old + left.old }
 {
     let _left = *left;
-    let deep = deeper(deep)?;
+    let depth_left = deeper(depth_left)?;
     let names = &branch.names;
-    let Some(goal) = branch_goal(alloc, number, params, k, ty, returns, names, deep)? else {
+    let Some(goal) = branch_goal(alloc, number, params, k, ty, returns, names, depth_left)? else {
         return Err(Stop::Refused(Refusal::BadElimination));
     };
     check_branch(
@@ -558,12 +562,13 @@ fn infer_branch<L: Ledger>(
         &branch.body,
         &goal.ty,
         left,
-        deep,
+        depth_left,
         steps,
     )
 }
 
-/// Checks a branch's body against its type, in the context of the constructor's arguments by the names from `at` on.
+/// Checks a branch's body against its type, in the context of the constructor's arguments by the
+/// names from `at` on.
 #[cycle(infer)]
 #[tactic(auto, using(crate::proofs::Branching::branch_rules))]
 fn check_branch<L: Ledger>(
@@ -576,25 +581,25 @@ fn check_branch<L: Ledger>(
     body: &Term,
     ty: &Term,
     left: &mut u64,
-    deep: usize,
+    depth_left: usize,
     steps: &mut Steps<L>,
 ) -> Result<(), Stop>
     ensures answer { Answers (λ a. a) (fits (environment_of env.now) (branch_context (hypotheses_of context.now) (tree_of own.now) (drop at names.now)) (tree_of body.now) (tree_of ty.now) left.old) left.new result }
     ensures cost { steps.new + left.new ≡ steps.old + left.old }
 {
     let _left = *left;
-    let deep = deeper(deep)?;
+    let depth_left = deeper(depth_left)?;
     match names.get(at) {
-        None => check_fit(alloc, env, context, body, ty, left, deep, steps),
+        None => check_fit(alloc, env, context, body, ty, left, depth_left, steps),
         Some(name) => match own {
             Term::Prod(_, domain, codomain) => {
                 let next = at.checked_add(1).ok_or(OutOfMemory)?;
                 let inner = Context::More(name, &*domain, &*context);
                 check_branch(
-                    alloc, env, &inner, codomain, names, next, body, ty, left, deep, steps,
+                    alloc, env, &inner, codomain, names, next, body, ty, left, depth_left, steps,
                 )
             }
-            _ => check_fit(alloc, env, context, body, ty, left, deep, steps),
+            _ => check_fit(alloc, env, context, body, ty, left, depth_left, steps),
         },
     }
 }
@@ -609,15 +614,15 @@ fn check_fit<L: Ledger>(
     t: &Term,
     ty: &Term,
     left: &mut u64,
-    deep: usize,
+    depth_left: usize,
     steps: &mut Steps<L>,
 ) -> Result<(), Stop>
     ensures answer { Answers (λ a. a) (fits (environment_of env.now) (hypotheses_of context.now) (tree_of t.now) (tree_of ty.now) left.old) left.new result }
     ensures cost { steps.new + left.new ≡ steps.old + left.old }
 {
     let _left = *left;
-    let deep = deeper(deep)?;
-    let inferred = infer(alloc, env, context, t, left, deep, steps)?;
+    let depth_left = deeper(depth_left)?;
+    let inferred = infer(alloc, env, context, t, left, depth_left, steps)?;
     agree(
         alloc,
         env,
@@ -626,7 +631,7 @@ fn check_fit<L: Ledger>(
         inferred,
         ty,
         left,
-        deep,
+        depth_left,
         steps,
     )
 }

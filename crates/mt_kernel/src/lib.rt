@@ -1,11 +1,13 @@
-//! The kernel: it checks closed terms on plain trees, and shares no code with the layers that find them.
+//! The kernel: it checks closed terms on plain trees, and shares no code with the layers that find
+//! them.
 #![tactic(auto)]
 
 ghost use Rattle.std.specs.Prelude.{◌≡◌, ◌+◌, ◌≤◌, [], IfOk, OnErr, OnOk};
-ghost use Rattle.mt_kernel.specs.Answers.{Answers, IsYes, answer_of, charge_of, verdict_of};
+ghost use Rattle.mt_kernel.specs.Answers.{IsYes, answer_of, charge_of, verdict_of};
+ghost use Rattle.mt_rules.specs.Answers.{Answers};
 ghost use Rattle.mt_kernel.specs.Derived.{IsTermDerived, IsTypeDerived};
 ghost use Rattle.mt_term.specs.EnvironmentOf.{environment_of};
-ghost use Rattle.mt_term.specs.KernelCheck.{check, check_type};
+ghost use Rattle.mt_rules.specs.KernelCheck.{check, check_type};
 ghost use Rattle.mt_term.specs.TreeOf.{tree_of};
 
 mod arguments;
@@ -25,7 +27,7 @@ mod sorts;
 use crate::contexts::Context;
 use crate::expected::agree;
 use crate::inference::{infer, sort_of};
-use mt_term::{MOST_DEEP, Mode, OutOfMemory, PlainEnv, Refusal, Sort, Stop, Term};
+use mt_term::{MAX_DEPTH, Mode, OutOfMemory, PlainEnv, Refusal, Sort, Stop, Term};
 use mt_text::{Ledger, Steps};
 use std::alloc::Global;
 
@@ -110,7 +112,7 @@ pub fn check_type<L: Ledger>(
 /// # Errors
 ///
 /// `Refused` where the kernel says No, and `Spent` where the allowance does not suffice to say.
-#[tactic(auto, using(mt_term::proofs::InferenceRules::check_rules))]
+#[tactic(auto, using(mt_rules_laws::proofs::InferenceRules::check_rules))]
 pub fn check_term<L: Ledger>(
     alloc: Global,
     env: &PlainEnv,
@@ -123,7 +125,7 @@ pub fn check_term<L: Ledger>(
     ensures cost { steps.new + left.new ≡ steps.old + left.old }
 {
     check_sort(alloc, env, ty, left, steps)?;
-    let found = infer(alloc, env, &Context::Empty, term, left, MOST_DEEP, steps)?;
+    let found = infer(alloc, env, &Context::Empty, term, left, MAX_DEPTH, steps)?;
     agree(
         alloc,
         env,
@@ -132,7 +134,7 @@ pub fn check_term<L: Ledger>(
         found,
         ty,
         left,
-        MOST_DEEP,
+        MAX_DEPTH,
         steps,
     )
 }
@@ -142,7 +144,7 @@ pub fn check_term<L: Ledger>(
 /// # Errors
 ///
 /// `Refused` where the kernel says No, and `Spent` where the allowance does not suffice to say.
-#[tactic(auto, using(mt_term::proofs::InferenceRules::check_rules))]
+#[tactic(auto, using(mt_rules_laws::proofs::InferenceRules::check_rules))]
 pub fn check_sort<L: Ledger>(
     alloc: Global,
     env: &PlainEnv,
@@ -153,5 +155,5 @@ pub fn check_sort<L: Ledger>(
     ensures answer { Answers (λ s. s) (check_type (environment_of env.now) (tree_of ty.now) left.old) left.new result }
     ensures cost { steps.new + left.new ≡ steps.old + left.old }
 {
-    sort_of(alloc, env, &Context::Empty, ty, left, MOST_DEEP, steps)
+    sort_of(alloc, env, &Context::Empty, ty, left, MAX_DEPTH, steps)
 }

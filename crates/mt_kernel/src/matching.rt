@@ -2,42 +2,43 @@
 ghost use Rattle.std.specs.Prelude.{◌≡◌, IfOk, is_some};
 ghost use Rattle.mt_kernel.specs.Arguments.{args_of, seen_branch, tree_in};
 ghost use Rattle.mt_term.specs.ConstructorOf.{seen_constructor};
-ghost use Rattle.mt_term.specs.Contraction.{products};
 ghost use Rattle.mt_term.specs.Declarations.{constructor_at};
 ghost use Rattle.mt_term.specs.EntryOf.{seen_declaration};
 ghost use Rattle.mt_term.specs.Seen.{seen_tree};
 ghost use Rattle.mt_term.specs.Spines.{as_con, as_const};
-ghost use Rattle.mt_term.specs.Substitution.{all_but, count};
+ghost use Rattle.mt_term.specs.Substitution.{all_but, count, products};
 ghost use Rattle.mt_term.specs.Trees.{End};
 ghost use Rattle.mt_term.specs.TreeOf.{arms_of, tree_of, trees_of};
-ghost use Rattle.mt_term.specs.WeakHead.{branch_at, branch_under, corecursive_body, if_full, matched, params_of, recursive_step, taken, takes, unrolled};
+ghost use Rattle.mt_rules.specs.WeakHead.{branch_at, branch_under, corecursive_body, if_full, matched, params_of, recursive_step, taken, takes, unrolled};
 
 use crate::arguments::{Args, all_but, apply, apply_with, count};
 use mt_term::{
     Branch, Branches, Constructor, Entries, Entry, OutOfMemory, Term, Terms, copy, copy_branches,
-    deeper, filled,
+    deeper, fill,
 };
 use std::alloc::Global;
 
 /// How many products stand at the front of a type.
-pub fn products(ty: &Term, deep: usize) -> Result<usize, OutOfMemory>
+pub fn products(ty: &Term, depth_left: usize) -> Result<usize, OutOfMemory>
     ensures { IfOk result (λ n. n ≡ products (tree_of ty.now)) }
 {
-    let deep = deeper(deep)?;
+    let depth_left = deeper(depth_left)?;
     match ty {
-        Term::Prod(_, _, codomain) => products(codomain, deep)?.checked_add(1).ok_or(OutOfMemory),
+        Term::Prod(_, _, codomain) => products(codomain, depth_left)?
+            .checked_add(1)
+            .ok_or(OutOfMemory),
         _ => Ok(0),
     }
 }
 
 /// How many terms there are.
-pub fn length(terms: &Terms, deep: usize) -> Result<usize, OutOfMemory>
+pub fn length(terms: &Terms, depth_left: usize) -> Result<usize, OutOfMemory>
     ensures { IfOk result (λ n. n ≡ count (trees_of terms.now)) }
 {
-    let deep = deeper(deep)?;
+    let depth_left = deeper(depth_left)?;
     match terms {
         Terms::End => Ok(0),
-        Terms::Item(_, rest) => length(rest, deep)?.checked_add(1).ok_or(OutOfMemory),
+        Terms::Item(_, rest) => length(rest, depth_left)?.checked_add(1).ok_or(OutOfMemory),
     }
 }
 
@@ -58,29 +59,35 @@ pub fn constructor_at(entries: &Entries, e: usize, k: usize) -> Option<&Construc
 fn takes(
     constructor: Option<&Constructor>,
     args: &Args<'_>,
-    deep: usize,
+    depth_left: usize,
 ) -> Result<bool, OutOfMemory>
     ensures { IfOk result (λ b. b ≡ takes (seen_constructor constructor.entry) (count (args_of args.now))) }
 {
     match constructor {
         None => Ok(false),
-        Some(c) => Ok(count(args)? == products(&c.ty, deep)?),
+        Some(c) => Ok(count(args)? == products(&c.ty, depth_left)?),
     }
 }
 
 /// Whether the term on the arguments is a constructor with all its arguments.
-fn is_full(entries: &Entries, t: &Term, args: &Args<'_>, deep: usize) -> Result<bool, OutOfMemory>
+fn is_full(
+    entries: &Entries,
+    t: &Term,
+    args: &Args<'_>,
+    depth_left: usize,
+) -> Result<bool, OutOfMemory>
     ensures { IfOk result (λ b. b ≡ is_some (if_full entries.now (as_con (tree_of t.now) (args_of args.now)))) }
 {
-    let deep = deeper(deep)?;
+    let depth_left = deeper(depth_left)?;
     match t {
-        Term::App(f, a) => is_full(entries, &*f, &Args::More(&*a, &*args), deep),
-        Term::Con(e, k) => takes(constructor_at(entries, *e, *k), args, deep),
+        Term::App(f, a) => is_full(entries, &*f, &Args::More(&*a, &*args), depth_left),
+        Term::Con(e, k) => takes(constructor_at(entries, *e, *k), args, depth_left),
         _ => Ok(false),
     }
 }
 
-/// What a recursive function of this place and body becomes on the arguments, where the one at the place has the weak head `head`.
+/// What a recursive function of this place and body becomes on the arguments, where the one at the
+/// place has the weak head `head`.
 pub fn recursive_step(
     alloc: Global,
     entries: &Entries,
@@ -88,11 +95,11 @@ pub fn recursive_step(
     body: &Term,
     args: &Args<'_>,
     head: &Term,
-    deep: usize,
+    depth_left: usize,
 ) -> Result<Option<Term>, OutOfMemory>
     ensures { IfOk result (λ o. tree_in o ≡ recursive_step entries.now place (tree_of body.now) (args_of args.now) (tree_of head.now)) }
 {
-    if !is_full(entries, head, &Args::End, deep)? {
+    if !is_full(entries, head, &Args::End, depth_left)? {
         return Ok(None);
     }
     let body = copy(alloc, body)?;
@@ -113,17 +120,21 @@ fn params_of(entry: Option<&Entry>) -> usize
 }
 
 /// The branch of a number.
-fn branch_at(branches: &Branches, k: usize, deep: usize) -> Result<Option<&Branch>, OutOfMemory>
+fn branch_at(
+    branches: &Branches,
+    k: usize,
+    depth_left: usize,
+) -> Result<Option<&Branch>, OutOfMemory>
     ensures { IfOk result (λ o. seen_branch o ≡ branch_at (arms_of branches.now) k) }
 {
-    let deep = deeper(deep)?;
+    let depth_left = deeper(depth_left)?;
     match branches {
         Branches::End => Ok(None),
         Branches::Item(b, rest) => {
             if k == 0 {
                 Ok(Some(b))
             } else {
-                branch_at(rest, k - 1, deep)
+                branch_at(rest, k - 1, depth_left)
             }
         }
     }
@@ -135,7 +146,7 @@ fn branch_under(
     branch: Option<&Branch>,
     params: usize,
     args: &Args<'_>,
-    deep: usize,
+    depth_left: usize,
 ) -> Result<Option<Term>, OutOfMemory>
     ensures { IfOk result (λ o. tree_in o ≡ branch_under (seen_branch branch.entry) (all_but params (args_of args.now))) }
 {
@@ -143,56 +154,62 @@ fn branch_under(
         None => Ok(None),
         Some(b) => {
             let rest = all_but(alloc, args, params)?;
-            if b.names.len() != length(&rest, deep)? {
+            if b.names.len() != length(&rest, depth_left)? {
                 return Ok(None);
             }
-            Ok(Some(filled(alloc, &b.body, &rest)?))
+            Ok(Some(fill(alloc, &b.body, &rest)?))
         }
     }
 }
 
 /// The body of the branch for the constructor that the term on the arguments is.
-fn taken(
+fn take_branch(
     alloc: Global,
     entries: &Entries,
     number: usize,
     t: &Term,
     args: &Args<'_>,
     branches: &Branches,
-    deep: usize,
+    depth_left: usize,
 ) -> Result<Option<Term>, OutOfMemory>
     ensures { IfOk result (λ o. tree_in o ≡ taken entries.now number (if_full entries.now (as_con (tree_of t.now) (args_of args.now))) (arms_of branches.now)) }
 {
-    let deep = deeper(deep)?;
+    let depth_left = deeper(depth_left)?;
     match t {
         Term::App(f, a) => {
             let args = Args::More(&*a, &*args);
-            taken(alloc, entries, number, &*f, &args, branches, deep)
+            take_branch(alloc, entries, number, &*f, &args, branches, depth_left)
         }
         Term::Con(e, k) => {
-            if !takes(constructor_at(entries, *e, *k), args, deep)? || *e != number {
+            if !takes(constructor_at(entries, *e, *k), args, depth_left)? || *e != number {
                 return Ok(None);
             }
-            let branch = branch_at(branches, *k, deep)?;
-            branch_under(alloc, branch, params_of(entries.get(number)), args, deep)
+            let branch = branch_at(branches, *k, depth_left)?;
+            branch_under(
+                alloc,
+                branch,
+                params_of(entries.get(number)),
+                args,
+                depth_left,
+            )
         }
         _ => Ok(None),
     }
 }
 
 /// The body on the arguments, of a corecursive function on arguments.
-fn unrolled(
+fn unroll(
     alloc: Global,
     entries: &Entries,
     t: &Term,
     args: &Args<'_>,
-    deep: usize,
+    depth_left: usize,
 ) -> Result<Option<Term>, OutOfMemory>
     ensures { IfOk result (λ o. tree_in o ≡ unrolled entries.now (as_const (tree_of t.now) (args_of args.now))) }
 {
-    let deep = deeper(deep)?;
+    let depth_left = deeper(depth_left)?;
     match t {
-        Term::App(f, a) => unrolled(alloc, entries, &*f, &Args::More(&*a, &*args), deep),
+        Term::App(f, a) => unroll(alloc, entries, &*f, &Args::More(&*a, &*args), depth_left),
         Term::Const(c) => match corecursive_body(entries.get(*c)) {
             None => Ok(None),
             Some(body) => {
@@ -218,21 +235,29 @@ fn corecursive_body(entry: Option<&Entry>) -> Option<&Term>
 }
 
 /// What a match becomes, where the weak head of its matched term is `head`.
-pub fn matched(
+pub fn contract_match(
     alloc: Global,
     entries: &Entries,
     number: usize,
     returns: &Term,
     branches: &Branches,
     head: &Term,
-    deep: usize,
+    depth_left: usize,
 ) -> Result<Option<Term>, OutOfMemory>
     ensures { IfOk result (λ o. tree_in o ≡ matched entries.now number (tree_of returns.now) (arms_of branches.now) (tree_of head.now)) }
 {
-    if let Some(t) = taken(alloc, entries, number, head, &Args::End, branches, deep)? {
+    if let Some(t) = take_branch(
+        alloc,
+        entries,
+        number,
+        head,
+        &Args::End,
+        branches,
+        depth_left,
+    )? {
         return Ok(Some(t));
     }
-    match unrolled(alloc, entries, head, &Args::End, deep)? {
+    match unroll(alloc, entries, head, &Args::End, depth_left)? {
         None => Ok(None),
         Some(c) => {
             let returns = Box::new(alloc, copy(alloc, returns)?)?;

@@ -1,10 +1,10 @@
 // The order of sorts, the sort above one, and the sort of a product.
 ghost use Rattle.std.specs.Prelude.{◌≡◌, IfOk};
-ghost use Rattle.mt_term.specs.Comparison.{sorts_fit};
-ghost use Rattle.mt_term.specs.Universes.{sort_above, sort_of_product};
+ghost use Rattle.mt_rules.specs.Comparison.{sorts_fit};
+ghost use Rattle.mt_term.specs.UniverseForms.{sort_above, sort_of_product};
 
 use crate::order::at_most;
-use mt_term::{Atoms, Mode, OutOfMemory, Pairs, Sort, UnivExpr, maximum, raised};
+use mt_term::{Atoms, Mode, OutOfMemory, Pairs, Sort, UnivExpr, maximum, successor};
 use std::alloc::Global;
 
 /// Whether two sorts stand in the order of the mode.
@@ -38,7 +38,7 @@ pub fn sort_above(alloc: Global, s: &Sort) -> Result<Option<Sort>, OutOfMemory>
             base: 0,
             atoms: Atoms::new(alloc),
         }))),
-        Sort::Typ(u) => match raised(alloc, u)? {
+        Sort::Typ(u) => match successor(alloc, u)? {
             Some(above) => Ok(Some(Sort::Typ(above))),
             None => Ok(None),
         },

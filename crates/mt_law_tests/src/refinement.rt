@@ -1,5 +1,6 @@
-use mt_refinement::{
-    going_by_allowance, refinement_gives_typing, refusals_have_places, store_grows,
+use mt_refinement_laws::{
+    going_by_allowance, proper_stores, refinement_gives_typing, refinement_meets_laws,
+    refusals_have_places, store_grows,
 };
 
 #[test]
@@ -8,4 +9,6 @@ fn laws(_rt: HostRuntime) {
     store_grows();
     refusals_have_places();
     refinement_gives_typing();
+    proper_stores();
+    refinement_meets_laws();
 }

@@ -144,7 +144,7 @@ fn on(alloc: Global, f: Term, a: Term) -> Result<Term, OutOfMemory> {
     Ok(Term::App(f, Box::new(alloc, a)?))
 }
 
-// The match on the constructor with the return function and one branch of so many names.
+// The match on the constructor with the motive and one branch of so many names.
 fn match_on(alloc: Global, returns: Term, names: usize) -> Result<Term, OutOfMemory> {
     let mut binders = Names::new(alloc);
     if names > 0 {

@@ -12,7 +12,8 @@ use std::alloc::{AllocFailed, Global};
 use std::sync::ledger::Blank;
 use std::test::Fail;
 
-// Whether the weak head, or the normal form, of the first is the second, and its cost; nothing where the allowance is spent.
+// Whether the weak head, or the normal form, of the first is the second, and its cost; nothing
+// where the allowance is spent.
 #[tactic(auto, using(mt_reduce::proofs::Held::reduce_rules, mt_layers::proofs::Kept::added_rules))]
 fn reduced<L: Ledger>(
     alloc: Global,

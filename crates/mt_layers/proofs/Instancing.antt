@@ -3,17 +3,16 @@ use Rattle.std.proofs.Common.{ℕ, ◌≡◌, ◌<◌, List, length, Option, Som
 use Rattle.mt_term.specs.Trees.{Bytes, Tree, Trees, Arms, Var, Sort, Prod, Lam, App, Const, Ind, Con, Match, Meta, End, Item, NoArm, Arm}
 use Rattle.mt_term.specs.declared.universes.Sort.{Sort as AnySort}
 use Rattle.mt_term.specs.Substitution.{under}
-use Rattle.mt_term.specs.Stores.{Declared, Store}
-use Rattle.mt_term.specs.WeakHead.{body_of}
-use Rattle.mt_term.specs.Instances.{held_body, InstanceOf, InstanceAll, InstanceArms, inst_var, inst_sort, inst_prod, inst_lam, inst_app, inst_const, inst_ind, inst_con, inst_match, inst_open, inst_assigned, inst_end, inst_item, inst_no_arm, inst_arm}
+use Rattle.mt_term.specs.Stores.{Declared, Store, body_of}
+use Rattle.mt_term.specs.Instances.{InstanceOf, InstanceAll, InstanceArms, inst_var, inst_sort, inst_prod, inst_lam, inst_app, inst_const, inst_ind, inst_con, inst_match, inst_open, inst_assigned, inst_end, inst_item, inst_no_arm, inst_arm}
 use Rattle.mt_pool.specs.declared.nodes.TermId.{TermId}
-use Rattle.mt_pool.specs.Region.{arms_at, tree_at, trees_at, AllBelow, ArmsBelow, Kept, Names}
+use Rattle.mt_pool.specs.Region.{arms_at, tree_at, trees_at, AllBelow, ArmsBelow, Kept, Denotes}
 use Rattle.mt_pool.proofs.Region.{kept, arms-kept, kept-same, kept-then, tree-kept, trees-kept}
 use Rattle.mt_store.specs.declared.metavariables.HeldMeta.{HeldMeta}
 use Rattle.mt_store.specs.Held.{store_in, StoreBelow}
 use Rattle.mt_store.proofs.HeldLaws.{store-kept, store-below}
 
-body-is : (o : Option Declared) → held_body o ≡ body_of o
+body-is : (o : Option Declared) → body_of o ≡ body_of o
 body-is None = refl
 body-is (Some d) = refl
 
@@ -76,7 +75,7 @@ moved ms p q r s t u b l k m n i =
     subst (λ (v : Tree). InstanceOf (store_in p ms) (tree_at p t) v) (sym (tree-kept r s u n m)) before
 
 -- what is put into a pool at last
-put_at_last : {X : Type 0} (S : Store) (s : List Tree) (t v : Tree) (o : Result TermId X) → InstanceOf S t v → IfOk o (λ u. Names s u v) → IfOk o (λ u. InstanceOf S t (tree_at s u))
+put_at_last : {X : Type 0} (S : Store) (s : List Tree) (t v : Tree) (o : Result TermId X) → InstanceOf S t v → IfOk o (λ u. Denotes s u v) → IfOk o (λ u. InstanceOf S t (tree_at s u))
 put_at_last S s t v (Ok u) i h = subst (λ (w : Tree). InstanceOf S t w) (sym h.1) i
 put_at_last S s t v (Err x) i h = tt
 
@@ -84,7 +83,7 @@ put_at_last S s t v (Err x) i h = tt
 pub match-made : {X : Type 0} (ms : List HeldMeta) (p q1 q2 q3 q4 : List Tree) (e : ℕ) (R c R' c' : TermId) (bs bs' : List (List Bytes × TermId)) (o : Result TermId X)
     → StoreBelow (length p) ms → Kept p q1 → Kept q1 q2 → Kept q2 q3 → R.at < length p → c.at < length p → ArmsBelow (length p) bs → R'.at < length q1 → c'.at < length q2
     → InstanceOf (store_in p ms) (tree_at p R) (tree_at q1 R') → InstanceOf (store_in q1 ms) (tree_at q1 c) (tree_at q2 c') → InstanceArms (store_in q2 ms) (arms_at q2 bs) (arms_at q3 bs')
-    → IfOk o (λ u. Names q4 u (Match e (tree_at q3 R') (tree_at q3 c') (arms_at q3 bs')))
+    → IfOk o (λ u. Denotes q4 u (Match e (tree_at q3 R') (tree_at q3 c') (arms_at q3 bs')))
     → IfOk o (λ u. InstanceOf (store_in p ms) (Match e (tree_at p R) (tree_at p c) (arms_at p bs)) (tree_at q4 u))
 match-made ms p q1 q2 q3 q4 e R c R' c' bs bs' o b k1 k2 k3 lR lc lbs mR mc iR ic ia made =
     let onto : Kept p q2 = kept-then p q1 q2 k1 k2 in
@@ -98,7 +97,7 @@ match-made ms p q1 q2 q3 q4 e R c R' c' bs bs' o b k1 k2 k3 lR lc lbs mR mc iR i
 pub assigned-made : {X : Type 0} (ms : List HeldMeta) (p q r s : List Tree) (n : ℕ) (ks ls js : List TermId) (b b' : TermId) (o : Result TermId X)
     → StoreBelow (length p) ms → Kept p q → Kept q r → AllBelow (length q) ls → Some (tree_at q b) ≡ body_of ((store_in q ms).at n)
     → InstanceAll (store_in p ms) (trees_at p ks) (trees_at q ls) → InstanceOf (store_in q ms) (tree_at q b) (tree_at r b') → js ≡ ls
-    → IfOk o (λ u. Names s u (under (trees_at r js) (tree_at r b')))
+    → IfOk o (λ u. Denotes s u (under (trees_at r js) (tree_at r b')))
     → IfOk o (λ u. InstanceOf (store_in p ms) (Meta n (trees_at p ks)) (tree_at s u))
 assigned-made ms p q r s n ks ls js b b' o h k l m e all one same made =
     let S : store_in q ms ≡ store_in p ms = store-kept p q ms k h in

@@ -3,13 +3,13 @@ use Rattle.std.proofs.Common.{Bool, true, ℕ, zero, suc, ◌<◌, ◌≤◌, �
 use Rattle.std.proofs.lemmas.Option.{slice_get-map, slice_get_past}
 use Rattle.mt_term.specs.Trees.{Tree}
 use Rattle.mt_term.specs.Declarations.{Axiom, Definition, Inductive, Recursive, Declaration, Environment}
-use Rattle.mt_term.specs.Charges.{Done}
+use Rattle.mt_rules.specs.Charges.{Done}
 use Rattle.mt_term.specs.Stores.{Store}
-use Rattle.mt_term.specs.WeakHead.{whd}
-use Rattle.mt_term.specs.ReductionLaws.{ReachedFrom, Compared}
-use Rattle.mt_term.specs.Comparison.{convert}
+use Rattle.mt_rules.specs.WeakHead.{whd}
+use Rattle.mt_rules_laws.specs.ReductionLaws.{ReachedFrom, Compared}
+use Rattle.mt_rules.specs.Comparison.{convert}
 use Rattle.mt_term.specs.declared.modes.Mode.{Mode}
-use Rattle.mt_term.proofs.ReductionTheorems.{weak_head_law, comparison_law}
+use Rattle.mt_rules_laws.proofs.ReductionTheorems.{weak_head_law, comparison_law}
 use Rattle.mt_pool.specs.Region.{Kept}
 use Rattle.mt_pool.specs.declared.held.Held.{Held}
 use Rattle.mt_pool.specs.declared.held.Held.TheVariants.{Axiom as HeldAxiom, Definition as HeldDefinition, Inductive as HeldInductive, Recursive as HeldRecursive}

@@ -2,12 +2,12 @@
 use Rattle.std.proofs.Common.{◌≡◌, ℕ, List, [], None, slice_get, ap, sym, ◌∙◌}
 use Rattle.mt_term.specs.Trees.{Tree}
 use Rattle.mt_term.specs.Declarations.{Hypothesis, Environment}
-use Rattle.mt_term.specs.Charges.{Done}
-use Rattle.mt_term.specs.Inference.{infer}
-use Rattle.mt_term.specs.SoundStore.{SoundStore}
+use Rattle.mt_rules.specs.Charges.{Done}
+use Rattle.mt_rules.specs.Inference.{infer}
+use Rattle.mt_calculus.specs.SoundStore.{SoundStore}
 use Rattle.mt_term.specs.Stores.{Store}
-use Rattle.mt_term.proofs.Images.{none_some}
-use Rattle.mt_term.proofs.ReductionTheorems.{inference_law, strict_inference_law}
+use Rattle.mt_term.proofs.Options.{none_some}
+use Rattle.mt_rules_laws.proofs.ReductionTheorems.{inference_law, strict_inference_law}
 use Rattle.mt_store.specs.declared.metavariables.HeldMeta.{HeldMeta}
 use Rattle.mt_store.specs.Held.{store_in}
 use Rattle.mt_store.proofs.HeldLaws.{store_none}

@@ -1,3 +1,3 @@
 pub mod Environments
-pub mod Meets
+pub mod Stops
 pub mod Typed

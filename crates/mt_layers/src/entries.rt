@@ -3,7 +3,7 @@ ghost use Rattle.std.specs.Prelude.{◌≡◌, ℕ, List, slice_get};
 ghost use Rattle.mt_layers.specs.Environments.{declaration_seen, environment_in, found_in, EnvBelow, FoundBelow, SeenBelow};
 ghost use Rattle.mt_pool.specs.HeldOf.{constructors_in, ConstructorsBelow};
 ghost use Rattle.mt_term.specs.Declarations.{constructor_at};
-ghost use Rattle.mt_term.specs.Inference.{constructor_type};
+ghost use Rattle.mt_rules.specs.Inference.{constructor_type};
 ghost use Rattle.mt_term.specs.Seen.{seen};
 ghost use Rattle.mt_term.specs.Trees.{Tree};
 

@@ -8,11 +8,11 @@ ghost use Rattle.mt_term.specs.Trees.{Match, Meta};
 use crate::nodes::{copy_branches, copy_ids, listed_ids};
 use mt_pool::{BranchIds, Node, Pool, TermId, TermIds};
 use mt_store::Store;
-use mt_term::{MOST_DEEP, OutOfMemory, deeper};
+use mt_term::{MAX_DEPTH, OutOfMemory, deeper};
 use std::alloc::{AllocFailed, Global};
 use std::clone::Clone;
 
-/// The instance of a term. Of calls one inside the other it makes at most `deep`.
+/// The instance of a term. Recurses at most `depth_left` levels.
 #[cycle(instance)]
 #[tactic(auto, using(crate::proofs::Instancing::instance_rules))]
 pub fn instance(
@@ -20,7 +20,7 @@ pub fn instance(
     alloc: Global,
     store: &Store,
     t: TermId,
-    deep: usize,
+    depth_left: usize,
 ) -> Result<TermId, OutOfMemory>
     requires held { t.at < length pool.old }
     requires store_held { StoreBelow (length pool.old) store.now }
@@ -28,39 +28,39 @@ pub fn instance(
     ensures result_held { IfOk result (λ u. u.at < length pool.new) }
     ensures instance { IfOk result (λ u. InstanceOf (store_in pool.old store.now) (tree_at pool.old t) (tree_at pool.new u)) }
 {
-    let deep = deeper(deep)?;
+    let depth_left = deeper(depth_left)?;
     match pool.node(t) {
         Node::Prod(x, a, b) => {
             let x = x.clone()?;
             let a = *a;
             let b = *b;
-            let (a, b) = two_instances(pool, alloc, store, a, b, deep)?;
+            let (a, b) = two_instances(pool, alloc, store, a, b, depth_left)?;
             pool.put(Node::Prod(x, a, b))
         }
         Node::Lam(x, a, b) => {
             let x = x.clone()?;
             let a = *a;
             let b = *b;
-            let (a, b) = two_instances(pool, alloc, store, a, b, deep)?;
+            let (a, b) = two_instances(pool, alloc, store, a, b, depth_left)?;
             pool.put(Node::Lam(x, a, b))
         }
         Node::App(f, a) => {
             let f = *f;
             let a = *a;
-            let (f, a) = two_instances(pool, alloc, store, f, a, deep)?;
+            let (f, a) = two_instances(pool, alloc, store, f, a, depth_left)?;
             pool.put(Node::App(f, a))
         }
         Node::Match(e, r, c, bs) => {
             let e = *e;
             let r = *r;
             let c = *c;
-            let bs = copy_branches(alloc, bs, deep)?;
-            instance_match(pool, alloc, store, e, r, c, &bs, deep)
+            let bs = copy_branches(alloc, bs, depth_left)?;
+            instance_match(pool, alloc, store, e, r, c, &bs, depth_left)
         }
         Node::Meta(n, s) => {
             let n = *n;
-            let s = copy_ids(alloc, s, deep)?;
-            instance_meta(pool, alloc, store, n, &s, deep)
+            let s = copy_ids(alloc, s, depth_left)?;
+            instance_meta(pool, alloc, store, n, &s, depth_left)
         }
         Node::Var(_) | Node::Sort(_) | Node::Const(_) | Node::Ind(_) | Node::Con(..) => Ok(t),
     }
@@ -75,7 +75,7 @@ fn two_instances(
     store: &Store,
     t: TermId,
     u: TermId,
-    deep: usize,
+    depth_left: usize,
 ) -> Result<(TermId, TermId), OutOfMemory>
     requires first { t.at < length pool.old }
     requires second { u.at < length pool.old }
@@ -86,9 +86,9 @@ fn two_instances(
     ensures first { IfOk result (λ r. InstanceOf (store_in pool.old store.now) (tree_at pool.old t) (tree_at pool.new r.0)) }
     ensures second { IfOk result (λ r. InstanceOf (store_in pool.old store.now) (tree_at pool.old u) (tree_at pool.new r.1)) }
 {
-    let deep = deeper(deep)?;
-    let t = instance(pool, alloc, store, t, deep)?;
-    let u = instance(pool, alloc, store, u, deep)?;
+    let depth_left = deeper(depth_left)?;
+    let t = instance(pool, alloc, store, t, depth_left)?;
+    let u = instance(pool, alloc, store, u, depth_left)?;
     Ok((t, u))
 }
 
@@ -103,7 +103,7 @@ fn instance_match(
     r: TermId,
     c: TermId,
     bs: &BranchIds,
-    deep: usize,
+    depth_left: usize,
 ) -> Result<TermId, OutOfMemory>
     requires function { r.at < length pool.old }
     requires matched { c.at < length pool.old }
@@ -113,10 +113,10 @@ fn instance_match(
     ensures result_held { IfOk result (λ u. u.at < length pool.new) }
     ensures instance { IfOk result (λ u. InstanceOf (store_in pool.old store.now) (Match e (tree_at pool.old r) (tree_at pool.old c) (arms_at pool.old (branches_of bs.now))) (tree_at pool.new u)) }
 {
-    let deep = deeper(deep)?;
-    let r = instance(pool, alloc, store, r, deep)?;
-    let c = instance(pool, alloc, store, c, deep)?;
-    let bs = instance_branches(pool, alloc, store, bs, deep)?;
+    let depth_left = deeper(depth_left)?;
+    let r = instance(pool, alloc, store, r, depth_left)?;
+    let c = instance(pool, alloc, store, c, depth_left)?;
+    let bs = instance_branches(pool, alloc, store, bs, depth_left)?;
     pool.put(Node::Match(e, r, c, bs))
 }
 
@@ -129,7 +129,7 @@ fn instance_meta(
     store: &Store,
     n: usize,
     s: &TermIds,
-    deep: usize,
+    depth_left: usize,
 ) -> Result<TermId, OutOfMemory>
     requires terms { AllBelow (length pool.old) (ids_of s.now) }
     requires store_held { StoreBelow (length pool.old) store.now }
@@ -137,12 +137,12 @@ fn instance_meta(
     ensures result_held { IfOk result (λ u. u.at < length pool.new) }
     ensures instance { IfOk result (λ u. InstanceOf (store_in pool.old store.now) (Meta n (trees_at pool.old (ids_of s.now))) (tree_at pool.new u)) }
 {
-    let deep = deeper(deep)?;
-    let s = instance_ids(pool, alloc, store, s, deep)?;
+    let depth_left = deeper(depth_left)?;
+    let s = instance_ids(pool, alloc, store, s, depth_left)?;
     match store.body(n) {
         None => pool.put(Node::Meta(n, s)),
         Some(body) => {
-            let body = instance(pool, alloc, store, body, deep)?;
+            let body = instance(pool, alloc, store, body, depth_left)?;
             let s = listed_ids(alloc, &s)?;
             pool.under(alloc, body, &s)
         }
@@ -157,7 +157,7 @@ fn instance_ids(
     alloc: Global,
     store: &Store,
     s: &TermIds,
-    deep: usize,
+    depth_left: usize,
 ) -> Result<TermIds, OutOfMemory>
     requires held { AllBelow (length pool.old) (ids_of s.now) }
     requires store_held { StoreBelow (length pool.old) store.now }
@@ -165,12 +165,12 @@ fn instance_ids(
     ensures result_held { IfOk result (λ r. AllBelow (length pool.new) (ids_of r)) }
     ensures instance { IfOk result (λ r. InstanceAll (store_in pool.old store.now) (trees_at pool.old (ids_of s.now)) (trees_at pool.new (ids_of r))) }
 {
-    let deep = deeper(deep)?;
+    let depth_left = deeper(depth_left)?;
     match s {
         TermIds::End => Ok(TermIds::End),
         TermIds::Item(t, rest) => {
-            let t = instance(pool, alloc, store, *t, deep)?;
-            let rest = instance_ids(pool, alloc, store, rest, deep)?;
+            let t = instance(pool, alloc, store, *t, depth_left)?;
+            let rest = instance_ids(pool, alloc, store, rest, depth_left)?;
             Ok(TermIds::Item(t, Box::new(alloc, rest)?))
         }
     }
@@ -184,7 +184,7 @@ fn instance_branches(
     alloc: Global,
     store: &Store,
     bs: &BranchIds,
-    deep: usize,
+    depth_left: usize,
 ) -> Result<BranchIds, OutOfMemory>
     requires held { ArmsBelow (length pool.old) (branches_of bs.now) }
     requires store_held { StoreBelow (length pool.old) store.now }
@@ -192,13 +192,13 @@ fn instance_branches(
     ensures result_held { IfOk result (λ cs. ArmsBelow (length pool.new) (branches_of cs)) }
     ensures instance { IfOk result (λ cs. InstanceArms (store_in pool.old store.now) (arms_at pool.old (branches_of bs.now)) (arms_at pool.new (branches_of cs))) }
 {
-    let deep = deeper(deep)?;
+    let depth_left = deeper(depth_left)?;
     match bs {
         BranchIds::End => Ok(BranchIds::End),
         BranchIds::Item(names, body, rest) => {
             let names = names.clone()?;
-            let body = instance(pool, alloc, store, *body, deep)?;
-            let rest = instance_branches(pool, alloc, store, rest, deep)?;
+            let body = instance(pool, alloc, store, *body, depth_left)?;
+            let rest = instance_branches(pool, alloc, store, rest, depth_left)?;
             Ok(BranchIds::Item(names, body, Box::new(alloc, rest)?))
         }
     }

@@ -1,4 +1,5 @@
-//! What the layers share: the parts that they work on, charges, and the traits by which one layer calls another.
+//! What the layers share: the parts that they work on, charges, and the traits by which one layer
+//! calls another.
 #![tactic(auto)]
 
 mod convert;

@@ -1,11 +1,12 @@
 // The weak head, as a layer gives it.
 ghost use Rattle.std.specs.Prelude.{◌≡◌, ◌<◌, ◌+◌, length, IfOk, IfErr};
 ghost use Rattle.mt_layers.specs.Environments.{environment_in, EnvBelow};
-ghost use Rattle.mt_layers.specs.Meets.{Meets, IsNoRefusal};
+ghost use Rattle.mt_layers.specs.Stops.{IsNoRefusal};
+ghost use Rattle.mt_rules.specs.Answers.{Answers};
 ghost use Rattle.mt_pool.specs.Region.{tree_at, Kept};
 ghost use Rattle.mt_store.specs.Held.{store_in, StoreBelow};
-ghost use Rattle.mt_term.specs.ReductionLaws.{ReachedFrom};
-ghost use Rattle.mt_term.specs.WeakHead.{whd};
+ghost use Rattle.mt_rules_laws.specs.ReductionLaws.{ReachedFrom};
+ghost use Rattle.mt_rules.specs.WeakHead.{whd};
 
 use crate::work::Work;
 use mt_pool::TermId;
@@ -30,7 +31,7 @@ pub trait Whd {
         ensures env { w.new.env ≡ w.old.env }
         ensures store { w.new.store ≡ w.old.store }
         ensures kept { Kept w.old.pool.now w.new.pool.now }
-        ensures outcome { Meets (tree_at w.new.pool.now) (whd (environment_in w.old.pool.now w.old.env.now) (store_in w.old.pool.now w.old.store.now) (tree_at w.old.pool.now t) w.old.left) w.new.left result }
+        ensures outcome { Answers (tree_at w.new.pool.now) (whd (environment_in w.old.pool.now w.old.env.now) (store_in w.old.pool.now w.old.store.now) (tree_at w.old.pool.now t) w.old.left) w.new.left result }
         ensures result_held { IfOk result (λ u. u.at < length w.new.pool.now) }
         ensures unrefused { IfErr result (λ e. IsNoRefusal e) }
         ensures reached { IfOk result (λ u. ReachedFrom (environment_in w.old.pool.now w.old.env.now) (store_in w.old.pool.now w.old.store.now) (tree_at w.old.pool.now t) (tree_at w.new.pool.now u)) }

@@ -8,7 +8,7 @@ use crate::instances::instance;
 use mt_env::Env;
 use mt_pool::{Pool, TermId};
 use mt_store::Store;
-use mt_term::{MOST_DEEP, OutOfMemory, Stop};
+use mt_term::{MAX_DEPTH, OutOfMemory, Stop};
 use mt_text::{Ledger, Steps};
 use std::alloc::Global;
 
@@ -44,11 +44,13 @@ impl Work<'_> {
         Ok(())
     }
 
-    /// The instance of a term: every assigned metavariable replaced by its body under its terms, through and through.
+    /// The instance of a term: every assigned metavariable replaced by its body under its terms,
+    /// through and through.
     ///
     /// # Errors
     ///
-    /// Memory is wanting also where the instance goes through too many bodies; where a metavariable is below itself there may be none.
+    /// Memory is wanting also where the instance goes through too many bodies; where a metavariable
+    /// is below itself there may be none.
     pub fn instance(&mut self, alloc: Global, t: TermId) -> Result<TermId, OutOfMemory>
         requires held { t.at < length self.old.pool.now }
         requires store_held { StoreBelow (length self.old.pool.now) self.old.store.now }
@@ -60,6 +62,6 @@ impl Work<'_> {
         ensures result_held { IfOk result (λ u. u.at < length self.new.pool.now) }
         ensures instance { IfOk result (λ u. InstanceOf (store_in self.old.pool.now self.old.store.now) (tree_at self.old.pool.now t) (tree_at self.new.pool.now u)) }
     {
-        instance(self.pool, alloc, self.store, t, MOST_DEEP)
+        instance(self.pool, alloc, self.store, t, MAX_DEPTH)
     }
 }

@@ -27,7 +27,7 @@ gap-used : (depth at c : ℕ) (cs : List ℕ) → gap depth true at (c ∷ cs) �
 gap-used zero at c cs = refl
 gap-used (suc depth) at c cs = refl
 
-at_piece : (depth at s c : ℕ) (cs : List ℕ) (p : Piece) → ((deep : ℕ) (used : Bool) → gap deep used (at + len_utf8 c) cs ≡ Ok s → at + len_utf8 c ≤ s)
+at_piece : (depth at s c : ℕ) (cs : List ℕ) (p : Piece) → ((depth_left : ℕ) (used : Bool) → gap depth_left used (at + len_utf8 c) cs ≡ Ok s → at + len_utf8 c ≤ s)
     → goes depth at c cs p ≡ Ok s → at ≤ s
 at_piece depth at s c cs Opening later e = let h = later (depth + 1) true e in omega arith
 at_piece depth at s c cs Closing later e = let h = later (depth - 1) true e in omega arith
@@ -42,7 +42,7 @@ gap-after (c ∷ cs) depth true at s e =
     let later = gap-after cs depth false (at + len_utf8 c) s (sym (gap-used depth at c cs) ∙ e) in omega arith
 gap-after (c ∷ cs) depth false at s e =
     at_piece depth at s c cs (piece depth c (slice_index cs 0))
-    (λ deep used h. gap-after cs deep used (at + len_utf8 c) s h) (sym (gap-goes depth at c cs) ∙ e)
+    (λ depth_left used h. gap-after cs depth_left used (at + len_utf8 c) s h) (sym (gap-goes depth at c cs) ∙ e)
 
 -- the next character is the same
 next_same : (ds : List ℕ) (z : ℕ) (xs ys : List ℕ) → slice_index (ds ++ z ∷ xs) 0 ≡ slice_index (ds ++ z ∷ ys) 0
@@ -66,7 +66,7 @@ last_piece depth at s z xs ys ne near Passed h e = absurd (let later = gap-after
 last_piece depth at s z xs ys ne near Other h e =
     gap-goes depth at z ys ∙ ap (goes depth at z ys) (piece_other depth z (slice_index xs 0) (slice_index ys 0) ne h) ∙ e
 
-inner_piece : (depth at s c : ℕ) (xs ys : List ℕ) → ((deep : ℕ) (used : Bool) → gap deep used (at + len_utf8 c) xs ≡ Ok s → gap deep used (at + len_utf8 c) ys ≡ Ok s)
+inner_piece : (depth at s c : ℕ) (xs ys : List ℕ) → ((depth_left : ℕ) (used : Bool) → gap depth_left used (at + len_utf8 c) xs ≡ Ok s → gap depth_left used (at + len_utf8 c) ys ≡ Ok s)
     → (p : Piece) → goes depth at c xs p ≡ Ok s → goes depth at c ys p ≡ Ok s
 inner_piece depth at s c xs ys same Opening e = same (depth + 1) true e
 inner_piece depth at s c xs ys same Closing e = same (depth - 1) true e
@@ -87,7 +87,7 @@ gap-shared (c ∷ ds) depth false at s z xs ys ne near e =
     gap-goes depth at c (ds ++ z ∷ ys)
     ∙ ap (λ d. goes depth at c (ds ++ z ∷ ys) (piece depth c d)) (sym (next_same ds z xs ys))
     ∙ inner_piece depth at s c (ds ++ z ∷ xs) (ds ++ z ∷ ys)
-    (λ deep used h. gap-shared ds deep used (at + len_utf8 c) s z xs ys ne (omega arith) h)
+    (λ depth_left used h. gap-shared ds depth_left used (at + len_utf8 c) s z xs ys ne (omega arith) h)
     (piece depth c (slice_index (ds ++ z ∷ xs) 0)) (sym (gap-goes depth at c (ds ++ z ∷ xs)) ∙ e)
 
 -- a run of a class that the last shared character is not of is the same

@@ -6,7 +6,8 @@ use Rattle.mt_lexer.specs.declared.TokenKind.TheVariants.{End}
 use Rattle.mt_lexer.specs.declared.LexStop.{LexStop}
 use Rattle.mt_lexer.specs.declared.LexStop.TheVariants.{Lex, Incomplete}
 
--- a token that was read from a place on: it stands within the text, on the bounds of characters, and has
+-- a token that was read from a place on: it stands within the text, on the bounds of characters,
+-- and has
 -- text unless it is the end
 pub record IsPlaced (text : List ℕ) (at : ℕ) (t : Token) : Type 0 where
   pub after : at ≤ t.start

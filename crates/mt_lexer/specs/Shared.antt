@@ -4,7 +4,8 @@ use Rattle.std.specs.Str.{IsUtf8}
 
 -- `.`, `;`, `[`, `|`, `]`, `}` and `:`
 abbrev pub is_closing : ℕ → Bool
-is_closing c = (c == 46) || (c == 59) || (c == 91) || (c == 124) || (c == 93) || (c == 125) || (c == 58)
+is_closing c =
+    (c == 46) || (c == 59) || (c == 91) || (c == 124) || (c == 93) || (c == 125) || (c == 58)
 
 -- the two texts begin with the same bytes, the last of which is a closing sign and ends at n
 pub record ShareFront (a b : List ℕ) (n : ℕ) : Type 0 where

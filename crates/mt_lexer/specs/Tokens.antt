@@ -1,5 +1,7 @@
 -- The tokens of a text. A text is read as characters, each with the place of its first byte.
-use Rattle.std.specs.Prelude.{ℕ, zero, suc, ◌+◌, ◌-◌, ◌*◌, Bool, true, false, not, ◌&&◌, ◌||◌, ◌==◌, nat_lt, nat_le, if◌then◌else◌, List, [], ◌∷◌, ◌++◌, length, drop, slice_index, bytes_eq, codes, encode_utf8, Result, Ok, Err}
+use Rattle.std.specs.Prelude.{ℕ, zero, suc, ◌+◌, ◌-◌, ◌*◌, Bool, true, false, not, ◌&&◌, ◌||◌, ◌==◌}
+use Rattle.std.specs.Prelude.{nat_lt, nat_le, if◌then◌else◌, List, [], ◌∷◌, ◌++◌, length, drop}
+use Rattle.std.specs.Prelude.{slice_index, bytes_eq, codes, encode_utf8, Result, Ok, Err}
 use Rattle.std.specs.Char.{len_utf8}
 use Rattle.std.specs.List.{list_any}
 use Rattle.std.specs.Str.{chars}
@@ -37,7 +39,8 @@ is_in Digit c = is_digit c
 -- what a character is between tokens, within so many open comments, where d is the next character
 abbrev pub piece : ℕ → ℕ → ℕ → Piece
 piece zero c d = if (c == 40) && (d == 42) then Opening else (if is_blank c then Passed else Other)
-piece (suc depth) c d = if (c == 40) && (d == 42) then Opening else (if (c == 42) && (d == 41) then Closing else Passed)
+piece (suc depth) c d =
+    if (c == 40) && (d == 42) then Opening else (if (c == 42) && (d == 41) then Closing else Passed)
 
 -- the place after the blanks and comments at the front, within so many open comments;
 -- `used` says that the first character is the second one of `(*` or `*)`
@@ -64,8 +67,10 @@ run class (c ∷ cs) = if is_in class c then encode_utf8 c ++ run class cs else 
 
 abbrev pub is_reserved : List ℕ → Bool
 is_reserved w =
-    bytes_eq w (codes "Prop") || bytes_eq w (codes "Type") || bytes_eq w (codes "match") || bytes_eq w (codes "return")
-    || bytes_eq w (codes "with") || bytes_eq w (codes "fun") || bytes_eq w (codes "forall") || bytes_eq w (codes "let")
+    bytes_eq w (codes "Prop") || bytes_eq w (codes "Type") || bytes_eq w (codes "match")
+    || bytes_eq w (codes "return")
+    || bytes_eq w (codes "with") || bytes_eq w (codes "fun") || bytes_eq w (codes "forall")
+    || bytes_eq w (codes "let")
     || bytes_eq w (codes "in")
 
 -- a name has at most 255 bytes
@@ -82,7 +87,8 @@ value_onto v (d ∷ ds) = value_onto (v * 10 + (d - 48)) ds
 -- a number has no leading zero, but `0` itself, and is below 2 ^ 32
 abbrev pub number_token : ℕ → List ℕ → Result Token LexStop
 number_token at ds =
-    if ((slice_index ds 0 == 48) && nat_lt 1 (length ds)) || nat_lt 4294967295 (value_onto 0 ds) then Err (Lex at) else
+    if ((slice_index ds 0 == 48) && nat_lt 1 (length ds))
+    || nat_lt 4294967295 (value_onto 0 ds) then Err (Lex at) else
     Ok (token (Number (value_onto 0 ds)) at (at + length ds))
 
 -- `( ) [ ] { } . ; , | : * < + ? @ # … λ ∀ → ⇒ ≝ ≔ ≟ ≡ ⊢`

@@ -1,4 +1,4 @@
 mod Built
-mod Placed
+mod NodeAtDepth
 pub mod Region
 mod Replaced

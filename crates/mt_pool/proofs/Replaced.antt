@@ -6,7 +6,7 @@ use Rattle.mt_term.specs.Substitution.{then_as, fill, beyond}
 use Rattle.mt_pool.specs.declared.nodes.TermId.{TermId}
 use Rattle.mt_pool.specs.declared.replacement.Replacement.{Replacement}
 use Rattle.mt_pool.specs.declared.replacement.Replacement.TheVariants.{One, Under, Filled}
-use Rattle.mt_pool.specs.Region.{tree_at, trees_at, arms_at, AllBelow, ArmsBelow, Kept, Names}
+use Rattle.mt_pool.specs.Region.{tree_at, trees_at, arms_at, AllBelow, ArmsBelow, Kept, Denotes}
 use Rattle.mt_pool.specs.Replaced.{replacement_in, ReplacementBelow}
 use Rattle.mt_pool.proofs.Region.{tree-kept, trees-kept, arms-kept, length-kept, kept-then, all-below, arms-held}
 
@@ -58,7 +58,7 @@ pub match-made : (f h : Tree → Tree) (g m : Arms → Arms) → h ≡ f → m �
     → (r.at < t.at) × (c.at < t.at) × ArmsBelow t.at bs → copied ≡ bs
     → tree_at p0 t ≡ Match e (tree_at p0 r) (tree_at p0 c) (arms_at p0 bs)
     → (r' c' : TermId) (bs' : List (List Bytes × TermId))
-    → Names p1 r' (f (tree_at p0 r)) → Names p2 c' (h (tree_at p1 c)) → arms_at p3 bs' ≡ m (arms_at p2 copied)
+    → Denotes p1 r' (f (tree_at p0 r)) → Denotes p2 c' (h (tree_at p1 c)) → arms_at p3 bs' ≡ m (arms_at p2 copied)
     → Match e (tree_at p3 r') (tree_at p3 c') (arms_at p3 bs') ≡ f (tree_at p0 t)
 match-made f h g m eh em dist p0 p1 p2 p3 k1 k2 k3 t e r c bs copied l below ec et r' c' bs' nr nc nb =
     let k02 : Kept p0 p2 = kept-then p0 p1 p2 k1 k2 in

@@ -1,11 +1,15 @@
 -- What entries and contexts that are held in a pool say.
 use Rattle.std.specs.Prelude.{ℕ, ◌<◌, List, [], ◌∷◌, map}
 use Rattle.mt_term.specs.Trees.{Tree}
-use Rattle.mt_term.specs.Declarations.{Hypothesis, Constructor, Declaration, Axiom, Definition, Inductive, Recursive}
+use Rattle.mt_term.specs.Declarations.{Hypothesis, Constructor, Declaration, Axiom, Definition}
+use Rattle.mt_term.specs.Declarations.{Inductive, Recursive}
 use Rattle.mt_pool.specs.declared.contexts.HeldHyp.{HeldHyp}
 use Rattle.mt_pool.specs.declared.held.HeldConstructor.{HeldConstructor}
 use Rattle.mt_pool.specs.declared.held.Held.{Held}
-use Rattle.mt_pool.specs.declared.held.Held.TheVariants.{Axiom as HeldAxiom, Definition as HeldDefinition, Inductive as HeldInductive, Recursive as HeldRecursive}
+use Rattle.mt_pool.specs.declared.held.Held.TheVariants.{Axiom as HeldAxiom}
+use Rattle.mt_pool.specs.declared.held.Held.TheVariants.{Definition as HeldDefinition}
+use Rattle.mt_pool.specs.declared.held.Held.TheVariants.{Inductive as HeldInductive}
+use Rattle.mt_pool.specs.declared.held.Held.TheVariants.{Recursive as HeldRecursive}
 use Rattle.mt_pool.specs.Region.{tree_at}
 
 abbrev pub hypothesis_in : List Tree → HeldHyp → Hypothesis
@@ -34,8 +38,10 @@ ConstructorsBelow n (c ∷ cs) = (c.ty.at < n) × ConstructorsBelow n cs
 abbrev pub declaration_in : List Tree → Held → Declaration
 declaration_in p (HeldAxiom name ty) = Axiom name (tree_at p ty)
 declaration_in p (HeldDefinition name ty body) = Definition name (tree_at p ty) (tree_at p body)
-declaration_in p (HeldInductive name co params ty cons large) = Inductive name co params (tree_at p ty) (constructors_in p cons) large
-declaration_in p (HeldRecursive name co binders place ty body made) = Recursive name co binders place (tree_at p ty) (tree_at p body) made
+declaration_in p (HeldInductive name co params ty cons large) =
+    Inductive name co params (tree_at p ty) (constructors_in p cons) large
+declaration_in p (HeldRecursive name co binders place ty body made) =
+    Recursive name co binders place (tree_at p ty) (tree_at p body) made
 
 -- its ids are held where there are n
 abbrev pub HeldBelow : ℕ → Held → Type 0

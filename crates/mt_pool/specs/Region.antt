@@ -1,11 +1,16 @@
 -- What the nodes of a pool say: the pool is the list of the trees that its ids name.
 use Rattle.std.specs.Prelude.{ℕ, ◌+◌, ◌<◌, ◌≡◌, List, [], ◌∷◌, ◌++◌, length, slice_index_or}
-use Rattle.mt_term.specs.Trees.{Tree, Trees, Arms, Bytes, Var, Sort, Prod, Lam, App, Const, Ind, Con, Match, Meta, End, Item, NoArm, Arm}
+use Rattle.mt_term.specs.Trees.{Tree, Trees, Arms, Bytes, Var, Sort, Prod, Lam, App, Const, Ind}
+use Rattle.mt_term.specs.Trees.{Con, Match, Meta, End, Item, NoArm, Arm}
 use Rattle.mt_pool.specs.declared.nodes.TermId.{TermId}
 use Rattle.mt_pool.specs.declared.nodes.TermIds.{TermIds, End as NoId, Item' as IdItem}
 use Rattle.mt_pool.specs.declared.nodes.BranchIds.{BranchIds, End as NoBranch, Item' as BranchItem}
 use Rattle.mt_pool.specs.declared.nodes.Node.{Node}
-use Rattle.mt_pool.specs.declared.nodes.Node.TheVariants.{Var as VarNode, Sort as SortNode, Prod as ProdNode, Lam as LamNode, App as AppNode, Const as ConstNode, Ind as IndNode, Con as ConNode, Match as MatchNode, Meta as MetaNode}
+use Rattle.mt_pool.specs.declared.nodes.Node.TheVariants.{Var as VarNode, Sort as SortNode}
+use Rattle.mt_pool.specs.declared.nodes.Node.TheVariants.{Prod as ProdNode, Lam as LamNode}
+use Rattle.mt_pool.specs.declared.nodes.Node.TheVariants.{App as AppNode, Const as ConstNode}
+use Rattle.mt_pool.specs.declared.nodes.Node.TheVariants.{Ind as IndNode, Con as ConNode}
+use Rattle.mt_pool.specs.declared.nodes.Node.TheVariants.{Match as MatchNode, Meta as MetaNode}
 
 -- the ids of a metavariable's terms as their list
 abbrev pub ids_of : TermIds → List TermId
@@ -79,5 +84,5 @@ unfoldable pub Kept : List Tree → List Tree → Type 0
 Kept p q = (more : List Tree) × (q ≡ p ++ more)
 
 -- the id is held, and it names the tree
-abbrev pub Names : List Tree → TermId → Tree → Type 0
-Names p k t = (k.at < length p) × (tree_at p k ≡ t)
+abbrev pub Denotes : List Tree → TermId → Tree → Type 0
+Denotes p k t = (k.at < length p) × (tree_at p k ≡ t)

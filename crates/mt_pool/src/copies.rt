@@ -6,34 +6,35 @@ use crate::nodes::{BranchIds, TermIds};
 use mt_term::{OutOfMemory, deeper};
 use std::alloc::Global;
 
-/// A copy of the ids of a metavariable's terms. A list longer than `deep` counts as want of memory.
-pub fn copy_ids(alloc: Global, ids: &TermIds, deep: usize) -> Result<TermIds, OutOfMemory>
+/// A copy of the ids of a metavariable's terms. A list longer than `depth_left` counts as want of
+/// memory.
+pub fn copy_ids(alloc: Global, ids: &TermIds, depth_left: usize) -> Result<TermIds, OutOfMemory>
     ensures { IfOk result (λ copied. ids_of copied ≡ ids_of ids.now) }
 {
-    let deep = deeper(deep)?;
+    let depth_left = deeper(depth_left)?;
     match ids {
         TermIds::End => Ok(TermIds::End),
         TermIds::Item(id, ids) => {
-            let ids = Box::new(alloc, copy_ids(alloc, ids, deep)?)?;
+            let ids = Box::new(alloc, copy_ids(alloc, ids, depth_left)?)?;
             Ok(TermIds::Item(*id, ids))
         }
     }
 }
 
-/// A copy of the branches of a match. A list longer than `deep` counts as want of memory.
+/// A copy of the branches of a match. A list longer than `depth_left` counts as want of memory.
 pub fn copy_branches(
     alloc: Global,
     branches: &BranchIds,
-    deep: usize,
+    depth_left: usize,
 ) -> Result<BranchIds, OutOfMemory>
     ensures { IfOk result (λ copied. branches_of copied ≡ branches_of branches.now) }
 {
-    let deep = deeper(deep)?;
+    let depth_left = deeper(depth_left)?;
     match branches {
         BranchIds::End => Ok(BranchIds::End),
         BranchIds::Item(names, body, branches) => {
             let names = names.clone()?;
-            let branches = Box::new(alloc, copy_branches(alloc, branches, deep)?)?;
+            let branches = Box::new(alloc, copy_branches(alloc, branches, depth_left)?)?;
             Ok(BranchIds::Item(names, *body, branches))
         }
     }

@@ -94,7 +94,8 @@ impl Clone for HeldCons {
     }
 }
 
-/// An entry of an environment, with ids in place of its terms. `place` is 0 for a corecursive function, and `made` marks a generated principle.
+/// An entry of an environment, with ids in place of its terms. `place` is 0 for a corecursive
+/// function, and `made` marks a generated principle.
 #[derive(Drop)]
 pub enum Held {
     Axiom {

@@ -38,7 +38,7 @@ pub enum Node {
 
 // A node, and beside it the depth of its tree.
 #[derive(Drop)]
-pub(crate) struct Placed {
+pub(crate) struct NodeAtDepth {
     pub(crate) node: Node,
     pub(crate) depth: usize,
 }

@@ -1,17 +1,18 @@
 // The pool.
 ghost use Rattle.std.specs.Prelude.{◌≡◌, ◌<◌, ◌≤◌, [], length, take, IfOk, OnOk, OnErr};
 ghost use Rattle.mt_term.specs.Depth.{depth as depth_of};
-ghost use Rattle.mt_pool.specs.Region.{tree_at, tree_in, Below, Kept, Names};
+ghost use Rattle.mt_pool.specs.Region.{tree_at, tree_in, Below, Kept, Denotes};
 
-use crate::nodes::{Node, Placed, TermId};
+use crate::nodes::{Node, NodeAtDepth, TermId};
 use mt_term::OutOfMemory;
 use std::alloc::{AllocFailed, Global};
 use std::marker::Model;
 
-/// Terms, each built of those before it, seen as the list of the trees that their ids name. No tree is deeper than `MOST_DEEP`.
+/// Terms, each built of those before it, seen as the list of the trees that their ids name. No tree
+/// is deeper than `MAX_DEPTH`.
 #[derive(Drop)]
 pub struct Pool {
-    nodes: Vec<Placed>,
+    nodes: Vec<NodeAtDepth>,
 }
 
 impl Model for Pool {
@@ -59,18 +60,19 @@ impl Pool {
         self.nodes[id.at].depth
     }
 
-    /// Appends a node, which gets a new id. Where its tree is deeper than `MOST_DEEP`, memory is wanting.
+    /// Appends a node, which gets a new id. Where its tree is deeper than `MAX_DEPTH`, memory is
+    /// wanting.
     #[tactic(auto, using(crate::proofs::Region::kept))]
     pub fn put(&mut self, node: Node) -> Result<TermId, OutOfMemory>
         requires { Below (length self.old) node }
         ensures kept { Kept self.old self.new }
-        ensures tree { IfOk result (λ id. Names self.new id (tree_in self.old node)) }
+        ensures tree { IfOk result (λ id. Denotes self.new id (tree_in self.old node)) }
         ensures new { IfOk result (λ id. id.at ≡ length self.old) }
         ensures err { OnErr result (self.new ≡ self.old) }
     {
         let depth = self.node_depth(&node)?;
         let at = self.nodes.len();
-        self.nodes.push(Placed { node, depth })?;
+        self.nodes.push(NodeAtDepth { node, depth })?;
         Ok(TermId { at })
     }
 

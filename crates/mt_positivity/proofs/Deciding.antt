@@ -3,13 +3,12 @@ use Rattle.std.proofs.Common.{Bool, true, false, not, ◌&&◌, ◌||◌, ◌≡
 use Rattle.std.specs.Bool.{Decides}
 use Rattle.std.proofs.lemmas.Bool.Decides.{Decides-eqb, Decides-not, Decides-and, Decides-or, Decides-like, Decides-ltb}
 use Rattle.std.proofs.lemmas.Bool.{ltb-false, lt-leb}
-use Rattle.mt_term.proofs.AlikeLaws.{never, both}
+use Rattle.mt_calculus_laws.proofs.AlikeLaws.{never, both}
 use Rattle.mt_term.specs.Trees.{Tree, Trees, Arms, Bytes, Var, Sort, Prod, Lam, App, Const, Ind, Con, Match, Meta, End, Item, NoArm, Arm}
-use Rattle.mt_term.specs.Substitution.{apps, count}
-use Rattle.mt_term.specs.Positivity.{Avoids, AvoidsAll, AvoidsArms, parameters, RecursiveArgument, of_type, of_products, PositiveArguments, result, plain_argument, recursive_argument, PositiveFrom, past_parameters, parameter, Positive}
+use Rattle.mt_term.specs.Substitution.{apps, count, products}
+use Rattle.mt_calculus.specs.Positivity.{Avoids, AvoidsAll, AvoidsArms, parameters, RecursiveArgument, of_type, of_products, PositiveArguments, result, plain_argument, recursive_argument, PositiveFrom, past_parameters, parameter, Positive}
 use Rattle.mt_positivity.specs.Deciding.{avoids, avoids_all, avoids_arms, is_variable, is_argument, is_type_on, is_recursive, is_positive_past, is_positive_from, is_positive}
 use Rattle.mt_term.specs.Alike.{alike, is_alike}
-use Rattle.mt_term.specs.Contraction.{products}
 
 -- what always holds
 always : Decides true (Unit {0})

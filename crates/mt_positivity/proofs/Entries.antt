@@ -1,13 +1,13 @@
 -- The last constructor of an entry, by the test.
 use Rattle.std.proofs.Common.{Bool, true, ◌≡◌, ◌-◌, ◌<◌, ℕ, List, [], ◌∷◌, length, refl, sym, ◌∙◌, subst, slice_get, Some, None, IfSome, IsTrue, ◌↔◌, Result, Ok, Err, IfOk, zero, suc, ap, arith}
-use Rattle.mt_term.proofs.Images.{none_some, some_inj}
+use Rattle.mt_term.proofs.Options.{none_some, some_inj}
 use Rattle.mt_term.specs.Declarations.{Constructor}
 use Rattle.mt_pool.specs.declared.held.HeldConstructor.{HeldConstructor}
 use Rattle.mt_pool.specs.Region.{tree_at}
 use Rattle.mt_pool.specs.HeldOf.{constructor_in, constructors_in, ConstructorsBelow}
 use Rattle.mt_positivity.specs.Entries.{IsPositiveLast}
 use Rattle.mt_term.specs.Trees.{Tree}
-use Rattle.mt_term.specs.Positivity.{Positive}
+use Rattle.mt_calculus.specs.Positivity.{Positive}
 use Rattle.mt_positivity.specs.Deciding.{is_positive}
 use Rattle.mt_positivity.proofs.Deciding.{positive-decides}
 

@@ -1,8 +1,10 @@
 -- Positivity as a test that computes.
-use Rattle.std.specs.Prelude.{ℕ, zero, suc, ◌+◌, ◌-◌, Bool, true, false, not, ◌&&◌, ◌||◌, nat_eq, nat_lt, if◌then◌else◌}
-use Rattle.mt_term.specs.Trees.{Tree, Trees, Arms, Var, Sort, Prod, Lam, App, Const, Ind, Con, Match, Meta, End, Item, NoArm, Arm}
+use Rattle.std.specs.Prelude.{ℕ, zero, suc, ◌+◌, ◌-◌, Bool, true, false, not, ◌&&◌, ◌||◌, nat_eq}
+use Rattle.std.specs.Prelude.{nat_lt, if◌then◌else◌}
+use Rattle.mt_term.specs.Trees.{Tree, Trees, Arms, Var, Sort, Prod, Lam, App, Const, Ind, Con}
+use Rattle.mt_term.specs.Trees.{Match, Meta, End, Item, NoArm, Arm}
 use Rattle.mt_term.specs.Alike.{is_alike}
-use Rattle.mt_term.specs.Contraction.{products}
+use Rattle.mt_term.specs.Substitution.{products}
 
 -- whether a term does not mention entry n
 abbrev mutual
@@ -35,7 +37,8 @@ is_variable i _ = false
 abbrev pub is_argument : ℕ → ℕ → ℕ → ℕ → Tree → Bool
 is_argument n q d j a = if nat_lt j q then is_variable (d + (q - suc j)) a else avoids n a
 
--- whether a term is type n on so many arguments: its q parameters, under d arguments, and then terms that do not mention it
+-- whether a term is type n on so many arguments: its q parameters, under d arguments, and then
+-- terms that do not mention it
 abbrev pub is_type_on : ℕ → ℕ → ℕ → Tree → ℕ → Bool
 is_type_on n q d (Ind e) zero = nat_eq e n
 is_type_on n q d (App f a) (suc j) = is_argument n q d j a && is_type_on n q d f j
@@ -48,15 +51,19 @@ is_recursive n q indices d t = is_type_on n q d t (q + indices)
 
 -- whether what is left of a constructor's type, past the parameters and d arguments, is positive
 abbrev pub is_positive_past : ℕ → ℕ → ℕ → ℕ → Tree → Bool
-is_positive_past n q indices d (Prod x A B) = (avoids n A || is_recursive n q indices d A) && is_positive_past n q indices (suc d) B
+is_positive_past n q indices d (Prod x A B) =
+    (avoids n A || is_recursive n q indices d A) && is_positive_past n q indices (suc d) B
 is_positive_past n q indices d t = is_type_on n q d t (q + indices)
 
--- whether a constructor's type is positive, where so many parameters are left and so many passed; its parameters are beside those of the type
+-- whether a constructor's type is positive, where so many parameters are left and so many passed;
+-- its parameters are beside those of the type
 abbrev pub is_positive_from : ℕ → ℕ → ℕ → ℕ → Tree → Tree → Bool
 is_positive_from n indices zero q T C = is_positive_past n q indices zero C
-is_positive_from n indices (suc p) q (Prod x A B) (Prod y A' D) = is_alike A A' && is_positive_from n indices p (suc q) B D
+is_positive_from n indices (suc p) q (Prod x A B) (Prod y A' D) =
+    is_alike A A' && is_positive_from n indices p (suc q) B D
 is_positive_from n indices (suc p) q _ _ = false
 
--- whether a constructor of type n, which has p parameters and the type T, is positive: its closed type is C
+-- whether a constructor of type n, which has p parameters and the type T, is positive: its closed
+-- type is C
 abbrev pub is_positive : ℕ → ℕ → Tree → Tree → Bool
 is_positive n p T C = is_positive_from n (products T - p) p zero T C

@@ -2,7 +2,7 @@
 use Rattle.std.specs.Prelude.{ℕ, ◌-◌, ◌<◌, List, length, IfSome, slice_get}
 use Rattle.mt_term.specs.Trees.{Tree}
 use Rattle.mt_term.specs.Declarations.{Constructor, Declaration, Inductive}
-use Rattle.mt_term.specs.Positivity.{Positive}
+use Rattle.mt_calculus.specs.Positivity.{Positive}
 use Rattle.mt_pool.specs.declared.held.Held.{Held}
 use Rattle.mt_pool.specs.declared.held.Held.TheVariants.{Inductive as HeldInductive}
 

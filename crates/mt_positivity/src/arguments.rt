@@ -6,7 +6,8 @@ ghost use Rattle.mt_positivity.specs.Deciding.{avoids, avoids_all, avoids_arms, 
 use mt_pool::{BranchIds, Node, Pool, TermId, TermIds};
 use mt_term::{OutOfMemory, deeper};
 
-/// An inductive type as its constructors see it: its number, and how many parameters and indices it has.
+/// An inductive type as its constructors see it: its number, and how many parameters and indices it
+/// has.
 #[derive(Clone, Copy)]
 pub struct Family {
     pub number: usize,
@@ -14,27 +15,28 @@ pub struct Family {
     pub indices: usize,
 }
 
-/// Whether a term does not mention an entry. A term deeper than `deep` counts as want of memory.
+/// Whether a term does not mention an entry. A term deeper than `depth_left` counts as want of
+/// memory.
 #[cycle(avoiding)]
 #[tactic(auto, using(mt_pool::proofs::Region::kept))]
-pub fn avoids(pool: &Pool, entry: usize, t: TermId, deep: usize) -> Result<bool, OutOfMemory>
+pub fn avoids(pool: &Pool, entry: usize, t: TermId, depth_left: usize) -> Result<bool, OutOfMemory>
     requires { t.at < length pool.now }
     ensures { IfOk result (λ b. b ≡ avoids entry (tree_at pool.now t)) }
 {
-    let deep = deeper(deep)?;
+    let depth_left = deeper(depth_left)?;
     match pool.node(t) {
         Node::Var(_) | Node::Sort(_) => Ok(true),
         Node::Prod(_, a, b) | Node::Lam(_, a, b) | Node::App(a, b) => {
-            Ok(avoids(pool, entry, *a, deep)? && avoids(pool, entry, *b, deep)?)
+            Ok(avoids(pool, entry, *a, depth_left)? && avoids(pool, entry, *b, depth_left)?)
         }
         Node::Const(n) | Node::Ind(n) | Node::Con(n, _) => Ok(*n != entry),
         Node::Match(n, r, c, branches) => Ok(
             *n != entry
-                && avoids(pool, entry, *r, deep)?
-                && avoids(pool, entry, *c, deep)?
-                && avoid_branches(pool, entry, branches, deep)?,
+                && avoids(pool, entry, *r, depth_left)?
+                && avoids(pool, entry, *c, depth_left)?
+                && avoid_branches(pool, entry, branches, depth_left)?,
         ),
-        Node::Meta(_, terms) => avoid_terms(pool, entry, terms, deep),
+        Node::Meta(_, terms) => avoid_terms(pool, entry, terms, depth_left),
     }
 }
 
@@ -45,16 +47,16 @@ pub fn avoid_terms(
     pool: &Pool,
     entry: usize,
     terms: &TermIds,
-    deep: usize,
+    depth_left: usize,
 ) -> Result<bool, OutOfMemory>
     requires { AllBelow (length pool.now) (ids_of terms.now) }
     ensures { IfOk result (λ b. b ≡ avoids_all entry (trees_at pool.now (ids_of terms.now))) }
 {
-    let deep = deeper(deep)?;
+    let depth_left = deeper(depth_left)?;
     match terms {
         TermIds::End => Ok(true),
         TermIds::Item(t, ts) => {
-            Ok(avoids(pool, entry, *t, deep)? && avoid_terms(pool, entry, ts, deep)?)
+            Ok(avoids(pool, entry, *t, depth_left)? && avoid_terms(pool, entry, ts, depth_left)?)
         }
     }
 }
@@ -65,16 +67,19 @@ fn avoid_branches(
     pool: &Pool,
     entry: usize,
     branches: &BranchIds,
-    deep: usize,
+    depth_left: usize,
 ) -> Result<bool, OutOfMemory>
     requires { ArmsBelow (length pool.now) (branches_of branches.now) }
     ensures { IfOk result (λ b. b ≡ avoids_arms entry (arms_at pool.now (branches_of branches.now))) }
 {
-    let deep = deeper(deep)?;
+    let depth_left = deeper(depth_left)?;
     match branches {
         BranchIds::End => Ok(true),
         BranchIds::Item(_, body, bs) => {
-            Ok(avoids(pool, entry, *body, deep)? && avoid_branches(pool, entry, bs, deep)?)
+            Ok(
+                avoids(pool, entry, *body, depth_left)?
+                    && avoid_branches(pool, entry, bs, depth_left)?,
+            )
         }
     }
 }
@@ -99,7 +104,8 @@ fn is_variable(pool: &Pool, index: usize, t: TermId) -> bool
     }
 }
 
-// Whether a term may stand at a place among the type's arguments, under so many arguments of a constructor.
+// Whether a term may stand at a place among the type's arguments, under so many arguments of a
+// constructor.
 #[tactic(auto, using(mt_pool::proofs::Region::kept))]
 fn is_argument(
     pool: &Pool,
@@ -107,7 +113,7 @@ fn is_argument(
     passed: usize,
     place: usize,
     t: TermId,
-    deep: usize,
+    depth_left: usize,
 ) -> Result<bool, OutOfMemory>
     requires { t.at < length pool.now }
     ensures { IfOk result (λ b. b ≡ is_argument of.number of.params passed place (tree_at pool.now t)) }
@@ -118,10 +124,11 @@ fn is_argument(
             .ok_or(OutOfMemory)?;
         return Ok(is_variable(pool, index, t));
     }
-    avoids(pool, of.number, t, deep)
+    avoids(pool, of.number, t, depth_left)
 }
 
-/// Whether a term is the type on so many arguments: its parameters, and then terms that do not mention it.
+/// Whether a term is the type on so many arguments: its parameters, and then terms that do not
+/// mention it.
 #[tactic(auto, using(mt_pool::proofs::Region::kept))]
 pub fn is_type_on(
     pool: &Pool,
@@ -129,12 +136,12 @@ pub fn is_type_on(
     passed: usize,
     t: TermId,
     many: usize,
-    deep: usize,
+    depth_left: usize,
 ) -> Result<bool, OutOfMemory>
     requires { t.at < length pool.now }
     ensures { IfOk result (λ b. b ≡ is_type_on of.number of.params passed (tree_at pool.now t) many) }
 {
-    let deep = deeper(deep)?;
+    let depth_left = deeper(depth_left)?;
     match pool.node(t) {
         Node::Ind(n) => Ok(many == 0 && *n == of.number),
         Node::App(f, a) => {
@@ -142,8 +149,8 @@ pub fn is_type_on(
                 return Ok(false);
             }
             Ok(
-                is_argument(pool, of, passed, many - 1, *a, deep)?
-                    && is_type_on(pool, of, passed, *f, many - 1, deep)?,
+                is_argument(pool, of, passed, many - 1, *a, depth_left)?
+                    && is_type_on(pool, of, passed, *f, many - 1, depth_left)?,
             )
         }
         Node::Var(_)
@@ -164,17 +171,20 @@ pub fn is_recursive(
     of: Family,
     passed: usize,
     t: TermId,
-    deep: usize,
+    depth_left: usize,
 ) -> Result<bool, OutOfMemory>
     requires { t.at < length pool.now }
     ensures { IfOk result (λ b. b ≡ is_recursive of.number of.params of.indices passed (tree_at pool.now t)) }
 {
-    let deep = deeper(deep)?;
+    let depth_left = deeper(depth_left)?;
     let many = of.params.checked_add(of.indices).ok_or(OutOfMemory)?;
     match pool.node(t) {
         Node::Prod(_, a, b) => {
             let further = passed.checked_add(1).ok_or(OutOfMemory)?;
-            Ok(avoids(pool, of.number, *a, deep)? && is_recursive(pool, of, further, *b, deep)?)
+            Ok(
+                avoids(pool, of.number, *a, depth_left)?
+                    && is_recursive(pool, of, further, *b, depth_left)?,
+            )
         }
         Node::Var(_)
         | Node::Sort(_)
@@ -184,6 +194,6 @@ pub fn is_recursive(
         | Node::Ind(_)
         | Node::Con(_, _)
         | Node::Match(_, _, _, _)
-        | Node::Meta(_, _) => is_type_on(pool, of, passed, t, many, deep),
+        | Node::Meta(_, _) => is_type_on(pool, of, passed, t, many, depth_left),
     }
 }

@@ -1,6 +1,6 @@
 // The positivity of a constructor.
 ghost use Rattle.std.specs.Prelude.{◌≡◌, ◌<◌, length, IfOk, IsTrue, ◌↔◌};
-ghost use Rattle.mt_term.specs.Contraction.{products};
+ghost use Rattle.mt_term.specs.Substitution.{products};
 ghost use Rattle.mt_pool.specs.Region.{tree_at};
 ghost use Rattle.mt_pool.specs.HeldOf.{constructors_in, declaration_in, ConstructorsBelow, HeldBelow};
 ghost use Rattle.mt_positivity.specs.Deciding.{is_positive, is_positive_from, is_positive_past};
@@ -8,7 +8,7 @@ ghost use Rattle.mt_positivity.specs.Entries.{HasConstructor, IsPositiveLast, La
 
 use crate::arguments::{Family, avoids, is_recursive, is_type_on};
 use mt_pool::{Held, HeldCons, Node, Pool, TermId};
-use mt_term::{MOST_DEEP, OutOfMemory, deeper};
+use mt_term::{MAX_DEPTH, OutOfMemory, deeper};
 
 /// Whether the last constructor of an inductive type, entry `n`, is positive.
 ///
@@ -50,7 +50,8 @@ fn is_last_positive(
     }
 }
 
-// Whether a constructor of a type with so many parameters is positive, by its closed type beside that of the type.
+// Whether a constructor of a type with so many parameters is positive, by its closed type beside
+// that of the type.
 #[tactic(auto, using(mt_pool::proofs::Region::kept))]
 fn is_positive(
     pool: &Pool,
@@ -63,19 +64,22 @@ fn is_positive(
     requires constructor { constructor.at < length pool.now }
     ensures { IfOk result (λ b. b ≡ is_positive number params (tree_at pool.now ty) (tree_at pool.now constructor)) }
 {
-    let indices = products(pool, ty, MOST_DEEP)?.saturating_sub(params);
+    let indices = products(pool, ty, MAX_DEPTH)?.saturating_sub(params);
     is_positive_from(pool, number, indices, params, 0, ty, constructor)
 }
 
-/// How many products stand at the front of a type. A term deeper than `deep` counts as want of memory.
+/// How many products stand at the front of a type. A term deeper than `depth_left` counts as want
+/// of memory.
 #[tactic(auto, using(mt_pool::proofs::Region::kept))]
-pub fn products(pool: &Pool, t: TermId, deep: usize) -> Result<usize, OutOfMemory>
+pub fn products(pool: &Pool, t: TermId, depth_left: usize) -> Result<usize, OutOfMemory>
     requires { t.at < length pool.now }
     ensures { IfOk result (λ many. many ≡ products (tree_at pool.now t)) }
 {
-    let deep = deeper(deep)?;
+    let depth_left = deeper(depth_left)?;
     match pool.node(t) {
-        Node::Prod(_, _, b) => products(pool, *b, deep)?.checked_add(1).ok_or(OutOfMemory),
+        Node::Prod(_, _, b) => products(pool, *b, depth_left)?
+            .checked_add(1)
+            .ok_or(OutOfMemory),
         Node::Var(_)
         | Node::Sort(_)
         | Node::Lam(_, _, _)
@@ -109,7 +113,7 @@ fn is_positive_from(
             params: passed,
             indices,
         };
-        return is_positive_past(pool, of, 0, constructor, MOST_DEEP);
+        return is_positive_past(pool, of, 0, constructor, MAX_DEPTH);
     }
     match (pool.node(ty), pool.node(constructor)) {
         (Node::Prod(_, a, b), Node::Prod(_, c, d)) => {
@@ -123,26 +127,27 @@ fn is_positive_from(
     }
 }
 
-// Whether what is left of a constructor's type, past the parameters and so many arguments, is positive.
+// Whether what is left of a constructor's type, past the parameters and so many arguments, is
+// positive.
 #[tactic(auto, using(mt_pool::proofs::Region::kept))]
 fn is_positive_past(
     pool: &Pool,
     of: Family,
     passed: usize,
     t: TermId,
-    deep: usize,
+    depth_left: usize,
 ) -> Result<bool, OutOfMemory>
     requires { t.at < length pool.now }
     ensures { IfOk result (λ b. b ≡ is_positive_past of.number of.params of.indices passed (tree_at pool.now t)) }
 {
-    let deep = deeper(deep)?;
+    let depth_left = deeper(depth_left)?;
     let many = of.params.checked_add(of.indices).ok_or(OutOfMemory)?;
     match pool.node(t) {
         Node::Prod(_, a, b) => {
             let further = passed.checked_add(1).ok_or(OutOfMemory)?;
-            let fits = avoids(pool, of.number, *a, deep)?
-                || is_recursive(pool, of, passed, *a, deep)?;
-            Ok(fits && is_positive_past(pool, of, further, *b, deep)?)
+            let fits = avoids(pool, of.number, *a, depth_left)?
+                || is_recursive(pool, of, passed, *a, depth_left)?;
+            Ok(fits && is_positive_past(pool, of, further, *b, depth_left)?)
         }
         Node::Var(_)
         | Node::Sort(_)
@@ -152,6 +157,6 @@ fn is_positive_past(
         | Node::Ind(_)
         | Node::Con(_, _)
         | Node::Match(_, _, _, _)
-        | Node::Meta(_, _) => is_type_on(pool, of, passed, t, many, deep),
+        | Node::Meta(_, _) => is_type_on(pool, of, passed, t, many, depth_left),
     }
 }

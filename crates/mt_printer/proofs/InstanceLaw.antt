@@ -4,10 +4,10 @@ use Rattle.std.specs.Prelude.{Bool, true, false, ◌||◌, if◌then◌else◌, 
 use Rattle.std.proofs.lemmas.Bool.Decides.{Decides-eqb}
 use Rattle.mt_term.specs.Trees.{Tree, Trees, Arms, Var, Sort, Prod, Lam, App, Const, Ind, Con, Match, Meta, End, Item, NoArm, Arm}
 use Rattle.mt_term.specs.States.{Metavariable}
-use Rattle.mt_term.specs.Stores.{Declared, Store, Acyclic, AllMetas, AllMetasIn, AllMetasArms, Below, InStore, Mentions, Owned, at_once, by_body, declared_as, onward, store_of}
-use Rattle.mt_term.specs.Instances.{InstanceOf, InstanceAll, InstanceArms, held_body, inst_var, inst_sort, inst_prod, inst_lam, inst_app, inst_const, inst_ind, inst_con, inst_match, inst_open, inst_assigned, inst_end, inst_item, inst_no_arm, inst_arm}
+use Rattle.mt_term.specs.Stores.{Declared, Store, Acyclic, AllMetas, AllMetasIn, AllMetasArms, Below, InStore, Mentions, Owned, at_once, by_body, declared_as, onward, store_of, body_of}
+use Rattle.mt_term.specs.Instances.{InstanceOf, InstanceAll, InstanceArms, inst_var, inst_sort, inst_prod, inst_lam, inst_app, inst_const, inst_ind, inst_con, inst_match, inst_open, inst_assigned, inst_end, inst_item, inst_no_arm, inst_arm}
 use Rattle.mt_term.specs.Instancing.{assigned_body, body_values, instance, put_values, put_values_all, put_values_arms, valued}
-use Rattle.mt_term.proofs.Images.{none_some, some_inj}
+use Rattle.mt_term.proofs.Options.{none_some, some_inj}
 use Rattle.mt_term.proofs.ReachLaws.{all_of_term, in_bound, term_of_all}
 use Rattle.mt_printer.specs.Laws.{InstanceFunctionLaw}
 
@@ -119,12 +119,12 @@ module _ (ms : List Metavariable) (acyclic : Acyclic (store_of ms)) (own : Owned
       → (m : Metavariable) → slice_get ms n ≡ Some m → (o : Option Tree) → m.body ≡ o → InstanceOf S (Meta n s) (valued (option_map (put_values (body_values ms k)) o) n s')
   proceed k q le n p s s' a ih m e None h =
       let there_is : S.at n ≡ Some (declared_as m) = ap (option_map declared_as) e in
-      inst_open (ap held_body there_is ∙ h) a
+      inst_open (ap body_of there_is ∙ h) a
   proceed k q le n p s s' a ih m e (Some b) h =
       let there_is : S.at n ≡ Some (declared_as m) = ap (option_map declared_as) e in
       let l = in_bound S n (declared_as m) there_is in
       let f = fewer (length ms) n q l (unvisited q n (declared_as m) there_is p) in
-      inst_assigned (ap held_body there_is ∙ h)
+      inst_assigned (ap body_of there_is ∙ h)
       (each S (body_values ms k) (IsBelow (visit n q)) (λ i p' r r' a'. ih (visit n q) (omega (arith, f, le)) i p' r r' a') b (further q n (declared_as m) b there_is h p))
       a
 

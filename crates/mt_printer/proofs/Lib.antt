@@ -1,7 +1,8 @@
 pub mod Fitting
 pub mod Turning
-pub mod Avoiding
+pub mod NamedLaws
 pub mod Telescoping
+pub mod Naming
 pub mod Instancing
 pub mod Listing
 pub mod InstanceLaw

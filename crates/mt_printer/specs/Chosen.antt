@@ -1,8 +1,11 @@
 -- The names that are shown for variables.
-use Rattle.std.specs.Prelude.{ℕ, zero, suc, ◌+◌, Bool, true, false, ◌||◌, nat_eq, if◌then◌else◌, List, [], ◌∷◌, ◌++◌, length, codes, Option, Some, None, slice_get, bytes_eq}
+use Rattle.std.specs.Prelude.{ℕ, zero, suc, ◌+◌, Bool, true, false, ◌||◌, nat_eq, if◌then◌else◌}
+use Rattle.std.specs.Prelude.{List, [], ◌∷◌, ◌++◌, length, codes, Option, Some, None, slice_get}
+use Rattle.std.specs.Prelude.{bytes_eq}
 use Rattle.std.specs.List.{list_any}
 use Rattle.std.specs.Fmt.{decimal}
-use Rattle.mt_term.specs.Trees.{Tree, Trees, Arms, Bytes, Var, Sort, Prod, Lam, App, Const, Ind, Con, Match, Meta, End, Item, NoArm, Arm}
+use Rattle.mt_term.specs.Trees.{Tree, Trees, Arms, Bytes, Var, Sort, Prod, Lam, App, Const, Ind}
+use Rattle.mt_term.specs.Trees.{Con, Match, Meta, End, Item, NoArm, Arm}
 use Rattle.mt_term.specs.Declarations.{Declaration, Constructor, constructor_at}
 use Rattle.mt_term.specs.Naming.{name_of}
 
@@ -94,16 +97,19 @@ abbrev pub candidate : Bytes → ℕ → Bytes
 candidate x zero = x
 candidate x (suc k) = x ++ codes "_" ++ decimal (suc k)
 
--- the first candidate from number k on that is none of some names, of so many candidates and the next
+-- the first candidate from number k on that is none of some names, of so many candidates and the
+-- next
 abbrev pub first_fit : List Bytes → Bytes → ℕ → ℕ → Bytes
 first_fit avoided x zero k = candidate x k
-first_fit avoided x (suc more) k = if is_one_of avoided (candidate x k) then first_fit avoided x more (suc k) else candidate x k
+first_fit avoided x (suc more) k =
+    if is_one_of avoided (candidate x k) then first_fit avoided x more (suc k) else candidate x k
 
 -- The first candidate that is none of some names: one of them is, of one more than there are names.
 unfoldable pub fit_name : List Bytes → Bytes → Bytes
 fit_name avoided x = first_fit avoided x (length avoided) 0
 
--- what a binder's name must not be: a name in scope, or that of an entry or constructor in a part under the binder
+-- what a binder's name must not be: a name in scope, or that of an entry or constructor in a part
+-- under the binder
 abbrev pub avoided_under : List Declaration → Scope → List Tree → List Bytes
 avoided_under es s parts = shown_names s ++ occurring_each es parts
 
@@ -111,7 +117,8 @@ avoided_under es s parts = shown_names s ++ occurring_each es parts
 abbrev pub chosen : List Declaration → Scope → Bytes → List Tree → Bytes
 chosen es s x parts = fit_name (avoided_under es s parts) (base_name x)
 
--- what is shown for a binder that is variable i of a part: its chosen name, or nothing where it is not used
+-- what is shown for a binder that is variable i of a part: its chosen name, or nothing where it is
+-- not used
 abbrev pub shown_binder : List Declaration → Scope → Bytes → ℕ → Tree → Option Bytes
 shown_binder es s x i b = if uses i b then Some (chosen es s x (b ∷ [])) else None
 

@@ -1,5 +1,6 @@
 -- The column of a place of a text.
-use Rattle.std.specs.Prelude.{ℕ, zero, suc, ◌+◌, false, eqb, if◌then◌else◌, List, slice_index, slice_range, chars}
+use Rattle.std.specs.Prelude.{ℕ, zero, suc, ◌+◌, false, eqb, if◌then◌else◌, List, slice_index}
+use Rattle.std.specs.Prelude.{slice_range, chars}
 use Rattle.unicode_width.specs.Width.{str_width}
 
 -- the place after the last line end before a place, or 0

@@ -1,13 +1,17 @@
 -- The text of accepted commands, each as a script has it.
-use Rattle.std.specs.Prelude.{ℕ, ◌+◌, Bool, true, false, not, if◌then◌else◌, List, [], ◌∷◌, ◌++◌, codes, Option, Some, None, is_some, slice_get, take}
+use Rattle.std.specs.Prelude.{ℕ, ◌+◌, Bool, true, false, not, if◌then◌else◌, List, [], ◌∷◌, ◌++◌}
+use Rattle.std.specs.Prelude.{codes, Option, Some, None, is_some, slice_get, take}
 use Rattle.std.specs.Fmt.{decimal}
 use Rattle.mt_term.specs.Trees.{Tree, Bytes}
-use Rattle.mt_term.specs.Declarations.{Declaration, Axiom, Definition, Inductive, Recursive, Constructor, Environment, Hypothesis}
-use Rattle.mt_term.specs.States.{Equation, Hint, Note, EntryNote, ConstraintNote, HintNote, CoercionNote}
+use Rattle.mt_term.specs.Declarations.{Declaration, Axiom, Definition, Inductive, Recursive}
+use Rattle.mt_term.specs.Declarations.{Constructor, Environment, Hypothesis}
+use Rattle.mt_term.specs.States.{Equation, Hint, Note, EntryNote, ConstraintNote, HintNote}
+use Rattle.mt_term.specs.States.{CoercionNote}
 use Rattle.mt_term.specs.ScriptState.{State}
 use Rattle.mt_printer.specs.Chosen.{Scope, scope_of_names}
 use Rattle.mt_printer.specs.TermText.{term_text, universe_name}
-use Rattle.mt_printer.specs.Telescopes.{Style, groups, variables, telescope_names, telescope_text, leading, under_binders, name_at}
+use Rattle.mt_printer.specs.Telescopes.{Style, groups, variables, telescope_names, telescope_text}
+use Rattle.mt_printer.specs.Telescopes.{leading, under_binders, name_at}
 
 -- what stands before a body, and before constructors
 abbrev pub becomes_text : Bytes
@@ -54,7 +58,8 @@ parts_of_constructors p (c ∷ cs) = constructor_part p c ++ parts_of_constructo
 
 -- a constructor and its type, under parameters of these names
 abbrev pub constructor_text : Environment → List Bytes → ℕ → Constructor → Bytes
-constructor_text E xs p c = codes " | " ++ c.name ++ codes " : " ++ text_under E xs (under_binders p c.ty)
+constructor_text E xs p c =
+    codes " | " ++ c.name ++ codes " : " ++ text_under E xs (under_binders p c.ty)
 
 abbrev pub constructors_text : Environment → List Bytes → ℕ → List Constructor → Bytes
 constructors_text E xs p [] = []
@@ -69,12 +74,15 @@ abbrev pub inductive_parts : ℕ → Tree → List Constructor → List Tree
 inductive_parts p T cs = under_binders p T ∷ parts_of_constructors p cs
 
 abbrev pub inductive_under : Environment → List Bytes → ℕ → Tree → List Constructor → Bytes
-inductive_under E xs p T cs = codes " : " ++ text_under E xs (under_binders p T) ++ made_of_text ++ constructors_text E xs p cs
+inductive_under E xs p T cs =
+    codes " : " ++ text_under E xs (under_binders p T) ++ made_of_text ++ constructors_text E xs p
+    cs
 
 abbrev pub inductive_text : Environment → Bytes → Bool → ℕ → Tree → List Constructor → Bytes
 inductive_text E x co p T cs =
     inductive_word co ++ x ++ telescope_text E groups (leading p T) (inductive_parts p T cs)
-    ++ inductive_under E (telescope_names E.entries (leading p T) (inductive_parts p T cs)) p T cs ++ unit_end
+    ++ inductive_under E (telescope_names E.entries (leading p T) (inductive_parts p T cs)) p T cs
+    ++ unit_end
 
 abbrev pub recursive_word : Bool → Bytes
 recursive_word false = codes "let rec "
@@ -91,12 +99,14 @@ recursive_parts n T b = under_binders n T ∷ under_binders n b ∷ []
 
 -- what stands after the binders, which have these names
 unfoldable pub recursive_rest : Environment → List Bytes → Bool → ℕ → Tree → Tree → Bytes
-recursive_rest E xs co r T b = place_text co xs r ++ codes " : " ++ text_under E xs T ++ becomes_text ++ text_under E xs b
+recursive_rest E xs co r T b =
+    place_text co xs r ++ codes " : " ++ text_under E xs T ++ becomes_text ++ text_under E xs b
 
 abbrev pub recursive_text : Environment → Bytes → Bool → ℕ → ℕ → Tree → Tree → Bytes
 recursive_text E x co n r T b =
     recursive_word co ++ x ++ telescope_text E groups (leading n T) (recursive_parts n T b)
-    ++ recursive_rest E (telescope_names E.entries (leading n T) (recursive_parts n T b)) co r (under_binders n T) (under_binders n b) ++ unit_end
+    ++ recursive_rest E (telescope_names E.entries (leading n T) (recursive_parts n T b)) co r
+    (under_binders n T) (under_binders n b) ++ unit_end
 
 -- a name and its closed type
 unfoldable pub typed_text : Environment → Bytes → Tree → Bytes
@@ -105,7 +115,8 @@ typed_text E x T = x ++ codes " : " ++ text_under E [] T
 -- an entry that was written, as a line; a generated principle prints nothing
 abbrev pub entry_text : Environment → Declaration → Bytes
 entry_text E (Axiom x T) = codes "axiom " ++ typed_text E x T ++ unit_end
-entry_text E (Definition x T b) = codes "definition " ++ typed_text E x T ++ becomes_text ++ text_under E [] b ++ unit_end
+entry_text E (Definition x T b) =
+    codes "definition " ++ typed_text E x T ++ becomes_text ++ text_under E [] b ++ unit_end
 entry_text E (Inductive x co p T cs l) = inductive_text E x co p T cs
 entry_text E (Recursive x co n r T b true) = []
 entry_text E (Recursive x co n r T b false) = recursive_text E x co n r T b
@@ -119,7 +130,9 @@ constraint_word = codes "universe constraint "
 
 -- the constraint that one universe is below another
 abbrev pub pair_text : List Bytes → ℕ → ℕ → Bytes
-pair_text names low high = constraint_word ++ universe_name names low ++ codes " < " ++ universe_name names high ++ unit_end
+pair_text names low high =
+    constraint_word ++ universe_name names low ++ codes " < " ++ universe_name names high ++
+    unit_end
 
 abbrev pub constraint_text : List Bytes → Option (ℕ × ℕ) → Bytes
 constraint_text names None = []
@@ -138,7 +151,8 @@ hint_parts h = terms_in h.eqs ++ (h.left ∷ h.right ∷ [])
 
 -- an equation; its term stands under the variables before its own
 abbrev pub equation_text : Environment → List Bytes → Equation → Bytes
-equation_text E xs e = codes "; " ++ name_at xs e.place ++ equated_text ++ text_under E (take e.place xs) e.term
+equation_text E xs e =
+    codes "; " ++ name_at xs e.place ++ equated_text ++ text_under E (take e.place xs) e.term
 
 abbrev pub equations_text : Environment → List Bytes → List Equation → Bytes
 equations_text E xs [] = []
@@ -146,14 +160,17 @@ equations_text E xs (e ∷ es) = equation_text E xs e ++ equations_text E xs es
 
 -- what stands after the variables of a hint, which have these names
 unfoldable pub hint_under : Environment → List Bytes → Hint → Bytes
-hint_under E xs h = equations_text E xs h.eqs ++ concludes_text ++ text_under E xs h.left ++ matches_text ++ text_under E xs h.right
+hint_under E xs h =
+    equations_text E xs h.eqs ++ concludes_text ++ text_under E xs h.left ++ matches_text ++
+    text_under E xs h.right
 
 unfoldable pub hint_word : Bytes
 hint_word = codes "unification hint "
 
 abbrev pub hint_text : Environment → Hint → Bytes
 hint_text E h =
-    hint_word ++ decimal h.precedence ++ given_text ++ telescope_text E variables h.vars (hint_parts h)
+    hint_word ++ decimal h.precedence ++ given_text ++ telescope_text E variables h.vars
+    (hint_parts h)
     ++ hint_under E (telescope_names E.entries h.vars (hint_parts h)) h ++ unit_end
 
 -- the line of a note
@@ -195,4 +212,5 @@ notes_text E (n ∷ ns) = note_text E n ++ notes_text E ns
 
 -- the number of lines, and the lines of all accepted commands in order
 unfoldable pub env_text : State → Bytes
-env_text s = codes "env " ++ decimal (line_count s.env s.notes) ++ (10 ∷ []) ++ notes_text s.env s.notes
+env_text s =
+    codes "env " ++ decimal (line_count s.env s.notes) ++ (10 ∷ []) ++ notes_text s.env s.notes

@@ -1,11 +1,12 @@
 -- The text of an open proof. All its types and terms are instances over the store.
-use Rattle.std.specs.Prelude.{ℕ, Bool, true, false, List, [], ◌∷◌, ◌++◌, length, codes, Option, Some, None, slice_get}
+use Rattle.std.specs.Prelude.{ℕ, Bool, true, false, List, [], ◌∷◌, ◌++◌, length, codes, Option}
+use Rattle.std.specs.Prelude.{Some, None, slice_get}
 use Rattle.std.specs.Fmt.{decimal}
 use Rattle.mt_term.specs.Trees.{Tree, Bytes, Meta, End}
 use Rattle.mt_term.specs.Declarations.{Environment, Hypothesis}
 use Rattle.mt_term.specs.States.{Metavariable}
 use Rattle.mt_term.specs.ScriptState.{State, Proof}
-use Rattle.mt_term.specs.Instancing.{instance}
+use Rattle.mt_term.specs.Instancing.{instance, instances}
 use Rattle.mt_printer.specs.Telescopes.{lines, telescope_names, telescope_text}
 use Rattle.mt_printer.specs.EnvText.{text_under}
 
@@ -19,18 +20,11 @@ goal_sign = 32 ∷ 32 ∷ 226 ∷ 138 ∷ 162 ∷ 32 ∷ []
 abbrev pub no_proof_text : Bytes
 no_proof_text = codes "proof none" ++ line_end
 
--- the instances of the types of hypotheses
-abbrev pub instance_part : List Metavariable → Hypothesis → List Hypothesis
-instance_part ms h = record { name = h.name; ty = instance ms h.ty } ∷ []
-
-abbrev pub instances : List Metavariable → List Hypothesis → List Hypothesis
-instances ms [] = []
-instances ms (h ∷ hs) = instance_part ms h ++ instances ms hs
-
 -- hypotheses and a type under them
 abbrev pub sequent_text : Environment → List Hypothesis → Tree → Bytes
 sequent_text E hs G =
-    telescope_text E lines hs (G ∷ []) ++ goal_sign ++ text_under E (telescope_names E.entries hs (G ∷ [])) G ++ line_end
+    telescope_text E lines hs (G ∷ []) ++ goal_sign ++ text_under E
+    (telescope_names E.entries hs (G ∷ [])) G ++ line_end
 
 -- the context and the type of a metavariable
 abbrev pub metavariable_text : Environment → List Metavariable → Option Metavariable → Bytes
@@ -43,7 +37,8 @@ focus_text true = codes " focus" ++ line_end
 focus_text false = codes " later" ++ line_end
 
 abbrev pub goal_text : Environment → List Metavariable → (ℕ × Bool) → Bytes
-goal_text E ms g = codes "goal " ++ decimal g.0 ++ focus_text g.1 ++ metavariable_text E ms (slice_get ms g.0)
+goal_text E ms g =
+    codes "goal " ++ decimal g.0 ++ focus_text g.1 ++ metavariable_text E ms (slice_get ms g.0)
 
 abbrev pub each_goal_text : Environment → List Metavariable → List (ℕ × Bool) → Bytes
 each_goal_text E ms [] = []
@@ -54,11 +49,13 @@ goals_word = 10 ∷ codes "goals "
 
 -- the name and the statement
 unfoldable pub statement_text : Environment → List Metavariable → Proof → Bytes
-statement_text E ms p = codes "proof " ++ p.name ++ codes " : " ++ text_under E [] (instance ms p.ty)
+statement_text E ms p =
+    codes "proof " ++ p.name ++ codes " : " ++ text_under E [] (instance ms p.ty)
 
 -- the number of goals, and the goals
 unfoldable pub all_goals_text : Environment → List Metavariable → Proof → Bytes
-all_goals_text E ms p = goals_word ++ decimal (length p.goals) ++ line_end ++ each_goal_text E ms p.goals
+all_goals_text E ms p =
+    goals_word ++ decimal (length p.goals) ++ line_end ++ each_goal_text E ms p.goals
 
 -- the term
 unfoldable pub root_text : Environment → List Metavariable → Proof → Bytes

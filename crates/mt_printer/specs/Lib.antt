@@ -6,6 +6,8 @@ pub mod Telescopes
 pub mod EnvText
 pub mod GoalsText
 pub mod ScopeOf
+pub mod NamedIn
+pub mod Contexts
 pub mod Prints
 pub mod Examples
 pub mod EnvExamples

@@ -11,7 +11,8 @@ Stops old new before now text WriteFault = Rose before now × AppendsPrefix old 
 Stops old new before now text OutOfMemory = (new ≡ old) × (now ≡ before)
 
 -- all of the text was appended, or the call stopped as above; the count of faults never falls
-pub record Prints {T : Type 0} (old new : Option (List ℕ)) (before now : ℕ) (text : List ℕ) (result : Result T PrintStop) : Type 0 where
+pub record Prints {T : Type 0} (old new : Option (List ℕ)) (before now : ℕ) (text : List ℕ)
+    (result : Result T PrintStop) : Type 0 where
   pub all : OnOk result (Appends old new text)
   pub stops : IfErr result (Stops old new before now text)
   pub later : before ≤ now

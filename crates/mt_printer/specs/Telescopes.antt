@@ -5,7 +5,8 @@ use Rattle.mt_term.specs.Declarations.{Declaration, Environment, Hypothesis}
 use Rattle.mt_printer.specs.Chosen.{Scope, chosen, scope_of_names}
 use Rattle.mt_printer.specs.TermText.{term_text}
 
--- what stands before the first hypothesis and before each further one, between name and type, and after the type
+-- what stands before the first hypothesis and before each further one, between name and type, and
+-- after the type
 pub record Style : Type 0 where
   pub first : Bytes
   pub further : Bytes
@@ -28,20 +29,24 @@ abbrev pub types_in : List Hypothesis → List Tree
 types_in [] = []
 types_in (h ∷ hs) = h.ty ∷ types_in hs
 
--- the name chosen for a hypothesis after others of these names, with further hypotheses and parts under it
+-- the name chosen for a hypothesis after others of these names, with further hypotheses and parts
+-- under it
 abbrev pub next_name : List Declaration → List Bytes → Bytes → List Hypothesis → List Tree → Bytes
 next_name es xs x hs parts = chosen es (scope_of_names xs []) x (types_in hs ++ parts)
 
 -- the names of hypotheses, oldest first, after others
 abbrev pub names_after : List Declaration → List Bytes → List Hypothesis → List Tree → List Bytes
 names_after es xs [] parts = xs
-names_after es xs (h ∷ hs) parts = names_after es (xs ++ next_name es xs h.name hs parts ∷ []) hs parts
+names_after es xs (h ∷ hs) parts =
+    names_after es (xs ++ next_name es xs h.name hs parts ∷ []) hs parts
 
 -- the text of hypotheses after others, with what stands before the next of them
-abbrev pub text_after : Environment → Style → Bytes → List Bytes → List Hypothesis → List Tree → Bytes
+abbrev pub text_after : Environment → Style → Bytes → List Bytes → List Hypothesis → List Tree
+    → Bytes
 text_after E style before xs [] parts = []
 text_after E style before xs (h ∷ hs) parts =
-    before ++ next_name E.entries xs h.name hs parts ++ style.between ++ term_text E (scope_of_names xs []) h.ty ++ style.after
+    before ++ next_name E.entries xs h.name hs parts ++ style.between ++ term_text E
+    (scope_of_names xs []) h.ty ++ style.after
     ++ text_after E style style.further (xs ++ next_name E.entries xs h.name hs parts ∷ []) hs parts
 
 -- the names and the text of hypotheses, with parts under all of them

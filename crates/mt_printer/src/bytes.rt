@@ -1,5 +1,5 @@
 // Bytes and numbers at the end of a text.
-ghost use Rattle.std.specs.Prelude.{◌≡◌, ◌++◌, OnOk};
+ghost use Rattle.std.specs.Prelude.{◌≡◌, ◌++◌, OnErr, OnOk};
 ghost use Rattle.std.specs.Fmt.{decimal};
 
 use mt_term::OutOfMemory;
@@ -7,6 +7,14 @@ use std::alloc::Global;
 
 pub(crate) fn put(out: &mut Vec<u8>, text: &[u8]) -> Result<(), OutOfMemory>
     ensures { OnOk result (out.new.items ≡ out.old.items ++ text.now) }
+{
+    out.extend_from_slice(text)
+}
+
+// The same for a text that is whole: where memory is wanting, what stood before stays as it was.
+pub(crate) fn put_whole(out: &mut Vec<u8>, text: &[u8]) -> Result<(), OutOfMemory>
+    ensures text { OnOk result (out.new.items ≡ out.old.items ++ text.now) }
+    ensures kept { OnErr result (out.new.items ≡ out.old.items) }
 {
     out.extend_from_slice(text)
 }

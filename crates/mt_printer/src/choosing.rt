@@ -1,13 +1,15 @@
 // Which name a binder is shown by.
 ghost use Rattle.std.specs.Prelude.{◌≡◌, ◌++◌, IfOk};
-ghost use Rattle.mt_printer.specs.Chosen.{avoided_under, base_name, candidate, chosen, is_one_of, occurring_each, shown_binder};
+ghost use Rattle.mt_printer.specs.Chosen.{base_name, candidate, chosen, fit_name, is_one_of, shown_binder};
+ghost use Rattle.mt_printer.specs.NamedIn.{avoided_by};
 ghost use Rattle.mt_printer.specs.ScopeOf.{hypotheses_of, trees_behind};
 ghost use Rattle.mt_printer.specs.Telescopes.{types_in};
 ghost use Rattle.mt_term.specs.TreeOf.{tree_of};
 
 use crate::bytes::{put, put_number};
+use crate::named::{Named, add_named_of_parts, add_named_of_types, is_name_of_one};
 use crate::scopes::Scope;
-use crate::walks::{occurs, uses};
+use crate::walks::uses;
 use mt_term::{Entries, Hyp, Name, OutOfMemory, Term};
 use std::alloc::Global;
 
@@ -35,58 +37,31 @@ fn base_name(name: &Name) -> &[u8]
     }
 }
 
-// Whether a name occurs in one of some terms.
-fn occurs_in_parts(
-    entries: &Entries,
-    parts: &[&Term],
-    name: &[u8],
-    deep: usize,
-) -> Result<bool, OutOfMemory>
-    ensures { IfOk result (λ answer. answer ≡ is_one_of (occurring_each entries.now (trees_behind parts.now)) name.now) }
+// Whether a name is in scope, or that of what was found under a binder.
+fn is_avoided(entries: &Entries, scope: &Scope, found: &[Named], name: &[u8]) -> bool
+    ensures { result ≡ is_one_of (avoided_by entries.now scope.now found.now) name.now }
 {
-    for part in parts {
-        if occurs(entries, part, name, deep)? {
-            return Ok(true);
-        }
-    }
-    Ok(false)
+    scope.shows(name) || is_name_of_one(entries, found, name)
 }
 
-// Whether a name occurs in the type of one of some hypotheses.
-fn occurs_in_types(
-    entries: &Entries,
-    hyps: &[Hyp],
-    name: &[u8],
-    deep: usize,
-) -> Result<bool, OutOfMemory>
-    ensures { IfOk result (λ answer. answer ≡ is_one_of (occurring_each entries.now (types_in (hypotheses_of hyps.now))) name.now) }
-{
-    for hyp in hyps {
-        if occurs(entries, &hyp.ty, name, deep)? {
-            return Ok(true);
-        }
-    }
-    Ok(false)
-}
-
-// Whether a binder must not be shown by a name.
-fn is_avoided(
+// The first candidate that is not avoided: one of them is, of one more than there are names.
+fn fit_name(
+    alloc: Global,
     entries: &Entries,
     scope: &Scope,
-    hyps: &[Hyp],
-    parts: &[&Term],
-    name: &[u8],
-    deep: usize,
-) -> Result<bool, OutOfMemory>
-    ensures { IfOk result (λ answer. answer ≡ is_one_of (avoided_under entries.now scope.now (types_in (hypotheses_of hyps.now) ++ trees_behind parts.now)) name.now) }
+    base: &[u8],
+    found: &[Named],
+) -> Result<Name, OutOfMemory>
+    ensures { IfOk result (λ answer. answer ≡ fit_name (avoided_by entries.now scope.now found.now) base.now) }
 {
-    if scope.shows(name) {
-        return Ok(true);
+    let names = (scope.len() + found.len()) as u64;
+    for k in 0..names + 1 {
+        let answer = candidate(alloc, base, k)?;
+        if !is_avoided(entries, scope, found, answer.as_bytes()) {
+            return Ok(answer);
+        }
     }
-    if occurs_in_types(entries, hyps, name, deep)? {
-        return Ok(true);
-    }
-    occurs_in_parts(entries, parts, name, deep)
+    unreachable!()
 }
 
 // The name chosen for a binder, over further hypotheses and parts.
@@ -97,18 +72,14 @@ pub(crate) fn choose(
     name: &Name,
     hyps: &[Hyp],
     parts: &[&Term],
-    deep: usize,
+    depth_left: usize,
 ) -> Result<Name, OutOfMemory>
     ensures { IfOk result (λ answer. answer ≡ chosen entries.now scope.now name.now (types_in (hypotheses_of hyps.now) ++ trees_behind parts.now)) }
 {
-    let base = base_name(name);
-    for k in 0..u64::MAX {
-        let answer = candidate(alloc, base, k)?;
-        if !is_avoided(entries, scope, hyps, parts, answer.as_bytes(), deep)? {
-            return Ok(answer);
-        }
-    }
-    Err(OutOfMemory)
+    let mut found = Vec::new(alloc);
+    add_named_of_types(&mut found, hyps, depth_left)?;
+    add_named_of_parts(&mut found, parts, depth_left)?;
+    fit_name(alloc, entries, scope, base_name(name), &found)
 }
 
 // The name that a binder shows, if its variable is used: it is variable `i` of the part.
@@ -119,13 +90,13 @@ pub(crate) fn shown_binder(
     name: &Name,
     i: usize,
     part: &Term,
-    deep: usize,
+    depth_left: usize,
 ) -> Result<Option<Name>, OutOfMemory>
     ensures { IfOk result (λ answer. answer ≡ shown_binder entries.now scope.now name.now i (tree_of part.now)) }
 {
-    if !uses(part, i, deep)? {
+    if !uses(part, i, depth_left)? {
         return Ok(None);
     }
-    let answer = choose(alloc, entries, scope, name, &[], &[part], deep)?;
+    let answer = choose(alloc, entries, scope, name, &[], &[part], depth_left)?;
     Ok(Some(answer))
 }

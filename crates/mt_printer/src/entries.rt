@@ -9,7 +9,7 @@ ghost use Rattle.mt_term.specs.TreeOf.{tree_of};
 
 use crate::bytes::put;
 use crate::telescopes::{Style, leading, name_at, put_telescope, put_under, under_binders};
-use mt_term::{Cons, Entry, MOST_DEEP, Name, Names, OutOfMemory, PlainEnv, Term};
+use mt_term::{Cons, Entry, MAX_DEPTH, Name, Names, OutOfMemory, PlainEnv, Term};
 use std::alloc::Global;
 
 // The line of an entry; a generated principle has none.
@@ -122,7 +122,7 @@ fn parts_of_inductive<'a>(
     ensures { IfOk result (λ parts. trees_behind parts.items ≡ inductive_parts params (tree_of ty.now) cons.now) }
 {
     let mut parts = Vec::new(alloc);
-    parts.push(under_binders(params, ty, MOST_DEEP)?)?;
+    parts.push(under_binders(params, ty, MAX_DEPTH)?)?;
     for k in 0..cons.len() {
         put_part(&mut parts, params, cons, k)?;
     }
@@ -139,7 +139,7 @@ fn put_part<'a>(
     ensures { OnOk result (trees_behind parts.new.items ≡ trees_behind parts.old.items ++ held (constructor_part params) (slice_get cons.now k)) }
 {
     if let Some(constructor) = cons.get(k) {
-        parts.push(under_binders(params, &constructor.ty, MOST_DEEP)?)?;
+        parts.push(under_binders(params, &constructor.ty, MAX_DEPTH)?)?;
     }
     Ok(())
 }
@@ -178,7 +178,7 @@ fn put_inductive_under(
     ensures { OnOk result (out.new.items ≡ out.old.items ++ inductive_under (environment_of env.now) names.now params (tree_of ty.now) cons.now) }
 {
     put(out, b" : ")?;
-    let kind = under_binders(params, ty, MOST_DEEP)?;
+    let kind = under_binders(params, ty, MAX_DEPTH)?;
     put_under(alloc, out, env, names.as_slice(), kind)?;
     put(out, b" \xe2\x89\x9d")?;
     put_constructors(alloc, out, env, names, params, cons)
@@ -217,7 +217,7 @@ fn put_constructor(
             put(out, b" | ")?;
             put(out, constructor.name.as_bytes())?;
             put(out, b" : ")?;
-            let kind = under_binders(params, &constructor.ty, MOST_DEEP)?;
+            let kind = under_binders(params, &constructor.ty, MAX_DEPTH)?;
             put_under(alloc, out, env, names.as_slice(), kind)
         }
         None => Ok(()),
@@ -246,8 +246,8 @@ fn put_recursive(
     put(out, recursive_word(co))?;
     put(out, name.as_bytes())?;
     let hyps = leading(alloc, binders, ty)?;
-    let kind = under_binders(binders, ty, MOST_DEEP)?;
-    let inner = under_binders(binders, body, MOST_DEEP)?;
+    let kind = under_binders(binders, ty, MAX_DEPTH)?;
+    let inner = under_binders(binders, body, MAX_DEPTH)?;
     let names = put_telescope(alloc, out, env, Style::Groups, &hyps, &[kind, inner])?;
     put_recursive_rest(alloc, out, env, &names, co, place, kind, inner)?;
     put(out, b".\n")

@@ -1,15 +1,15 @@
 // The text of an open proof.
-ghost use Rattle.std.specs.Prelude.{◌≡◌, ◌++◌, [], slice_get, OnOk, IfOk};
+ghost use Rattle.std.specs.Prelude.{◌≡◌, ◌++◌, [], slice_get, OnErr, OnOk, IfOk};
 ghost use Rattle.mt_printer.specs.EnvText.{held, text_under};
-ghost use Rattle.mt_printer.specs.GoalsText.{all_goals_text, each_goal_text, focus_text, goal_text, goals_text, instance_part, instances, metavariable_text, proof_text, root_text, statement_text};
+ghost use Rattle.mt_printer.specs.GoalsText.{all_goals_text, each_goal_text, focus_text, goal_text, goals_text, metavariable_text, proof_text, root_text, statement_text};
 ghost use Rattle.mt_printer.specs.ScopeOf.{hypotheses_of};
 ghost use Rattle.mt_term.specs.EnvironmentOf.{environment_of};
-ghost use Rattle.mt_term.specs.Instancing.{instance};
+ghost use Rattle.mt_term.specs.Instancing.{instance, instance_part, instances};
 ghost use Rattle.mt_term.specs.MetaOf.{metavariable_of};
 ghost use Rattle.mt_term.specs.StateOf.{proof_of, state_of};
 ghost use Rattle.mt_term.specs.TreeOf.{tree_of};
 
-use crate::bytes::{put, put_number};
+use crate::bytes::{put, put_number, put_whole};
 use crate::instances::instance;
 use crate::telescopes::{Style, put_telescope, put_under};
 use mt_term::{
@@ -18,9 +18,20 @@ use mt_term::{
 };
 use std::alloc::Global;
 
-/// Appends the part of a state from its line `proof` to before `end`: the statement of the open proof, its goals and its term, all as instances over the store; or that no proof is open.
-#[tactic(auto, unfolding(crate::specs::GoalsText::goals_text))]
+/// Appends the part of a state from its line `proof` to before `end`: the statement of the open
+/// proof, its goals and its term, all as instances over the store; or that no proof is open.
+/// Nothing where memory is wanting.
 pub fn put_goals(alloc: Global, out: &mut Vec<u8>, state: &PlainState) -> Result<(), OutOfMemory>
+    ensures text { OnOk result (out.new.items ≡ out.old.items ++ goals_text (state_of state.now)) }
+    ensures kept { OnErr result (out.new.items ≡ out.old.items) }
+{
+    let mut text = Vec::new(alloc);
+    put_goals_of(alloc, &mut text, state)?;
+    put_whole(out, &text)
+}
+
+#[tactic(auto, unfolding(crate::specs::GoalsText::goals_text))]
+fn put_goals_of(alloc: Global, out: &mut Vec<u8>, state: &PlainState) -> Result<(), OutOfMemory>
     ensures { OnOk result (out.new.items ≡ out.old.items ++ goals_text (state_of state.now)) }
 {
     match &state.proof {

@@ -1,12 +1,12 @@
 // The text of accepted commands.
-ghost use Rattle.std.specs.Prelude.{◌≡◌, ◌++◌, ◌≤◌, slice_get, OnOk, IfOk};
+ghost use Rattle.std.specs.Prelude.{◌≡◌, ◌++◌, ◌≤◌, slice_get, OnErr, OnOk, IfOk};
 ghost use Rattle.mt_printer.specs.EnvText.{constraint_text, constraint_word, env_text, equation_part, equation_text, equations_text, has_line, held, held_lines, hint_parts, hint_text, hint_under, hint_word, line_count, lines_of, note_text, notes_text, pair_text};
 ghost use Rattle.mt_printer.specs.ScopeOf.{trees_behind};
 ghost use Rattle.mt_term.specs.EnvironmentOf.{environment_of};
 ghost use Rattle.mt_term.specs.NoteOf.{hint_of, note_of};
 ghost use Rattle.mt_term.specs.StateOf.{state_of};
 
-use crate::bytes::{put, put_number};
+use crate::bytes::{put, put_number, put_whole};
 use crate::entries::{is_written, put_entry};
 use crate::sorts::universe_name;
 use crate::telescopes::{Style, copies, first_of, name_at, put_telescope, put_under};
@@ -14,8 +14,18 @@ use mt_term::{Names, Note, Notes, OutOfMemory, PlainEnv, PlainEqs, PlainHint, Pl
 use std::alloc::Global;
 
 /// Appends the line `env N` and the lines of the accepted commands, in order; N is their number.
-#[tactic(auto, unfolding(crate::specs::EnvText::env_text))]
+/// Nothing where memory is wanting.
 pub fn put_env(alloc: Global, out: &mut Vec<u8>, state: &PlainState) -> Result<(), OutOfMemory>
+    ensures text { OnOk result (out.new.items ≡ out.old.items ++ env_text (state_of state.now)) }
+    ensures kept { OnErr result (out.new.items ≡ out.old.items) }
+{
+    let mut text = Vec::new(alloc);
+    put_env_of(alloc, &mut text, state)?;
+    put_whole(out, &text)
+}
+
+#[tactic(auto, unfolding(crate::specs::EnvText::env_text))]
+fn put_env_of(alloc: Global, out: &mut Vec<u8>, state: &PlainState) -> Result<(), OutOfMemory>
     ensures { OnOk result (out.new.items ≡ out.old.items ++ env_text (state_of state.now)) }
 {
     put(out, b"env ")?;

@@ -36,7 +36,7 @@ pub fn print_term<O: Sink>(
 {
     let mut text = Vec::new(alloc);
     match put_term(alloc, &mut text, env, scope, t) {
-        Ok(()) => written(out, &text),
+        Ok(()) => write_text(out, &text),
         Err(OutOfMemory) => Err(PrintStop::OutOfMemory),
     }
 }
@@ -47,7 +47,7 @@ pub fn print_env<O: Sink>(alloc: Global, out: &mut O, state: &PlainState) -> Res
 {
     let mut text = Vec::new(alloc);
     match put_env(alloc, &mut text, state) {
-        Ok(()) => written(out, &text),
+        Ok(()) => write_text(out, &text),
         Err(OutOfMemory) => Err(PrintStop::OutOfMemory),
     }
 }
@@ -58,13 +58,13 @@ pub fn print_goals<O: Sink>(alloc: Global, out: &mut O, state: &PlainState) -> R
 {
     let mut text = Vec::new(alloc);
     match put_goals(alloc, &mut text, state) {
-        Ok(()) => written(out, &text),
+        Ok(()) => write_text(out, &text),
         Err(OutOfMemory) => Err(PrintStop::OutOfMemory),
     }
 }
 
 // Writes a text whole.
-fn written<O: Sink>(out: &mut O, text: &[u8]) -> Result<(), PrintStop>
+fn write_text<O: Sink>(out: &mut O, text: &[u8]) -> Result<(), PrintStop>
     ensures { Prints (O.got out.old) (O.got out.new) (O.faults out.old) (O.faults out.new) text.now result }
 {
     match write_all(out, text) {

@@ -1,5 +1,5 @@
 // The names that are shown for variables.
-ghost use Rattle.std.specs.Prelude.{◌≡◌, ◌∷◌, [], slice_get, OnOk};
+ghost use Rattle.std.specs.Prelude.{◌≡◌, ◌<◌, ◌^◌, ◌∷◌, [], length, slice_get, OnOk};
 ghost use Rattle.mt_printer.specs.Chosen.{shown_names, is_one_of};
 ghost use Rattle.mt_printer.specs.ScopeOf.{outer, turned};
 ghost use Rattle.mt_printer.specs.TermText.{variable_text};
@@ -8,7 +8,8 @@ use mt_term::{Name, OutOfMemory};
 use std::alloc::{AllocFailed, Global};
 use std::marker::Model;
 
-// The names that variables are shown by, seen with the innermost first. One that is not used shows none.
+// The names that variables are shown by, seen with the innermost first. One that is not used shows
+// none.
 #[derive(Drop)]
 pub(crate) struct Scope {
     shown: Vec<Option<Name>>,
@@ -31,6 +32,14 @@ impl Scope {
         Scope {
             shown: Vec::new(alloc),
         }
+    }
+
+    // How many variables there are.
+    pub(crate) fn len(&self) -> usize
+        ensures is { result ≡ length self.now }
+        ensures small { result < 2 ^ 63 }
+    {
+        self.shown.len()
     }
 
     // One more variable.

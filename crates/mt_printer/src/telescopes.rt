@@ -1,5 +1,5 @@
 // The text of hypotheses, binder groups and variables of hints.
-ghost use Rattle.std.specs.Prelude.{◌≡◌, ◌++◌, ◌∷◌, [], slice_get, take, IfOk, OnOk};
+ghost use Rattle.std.specs.Prelude.{◌≡◌, ◌++◌, ◌∷◌, [], slice_get, take, IfOk, OnErr, OnOk};
 ghost use Rattle.mt_printer.specs.Chosen.{scope_of_names};
 ghost use Rattle.mt_printer.specs.EnvText.{alone, held};
 ghost use Rattle.mt_printer.specs.ScopeOf.{hypotheses_of, style_of, trees_behind};
@@ -8,14 +8,15 @@ ghost use Rattle.mt_printer.specs.TermText.{term_text};
 ghost use Rattle.mt_term.specs.EnvironmentOf.{environment_of};
 ghost use Rattle.mt_term.specs.TreeOf.{tree_of};
 
-use crate::bytes::put;
+use crate::bytes::{put, put_whole};
 use crate::choosing::choose;
 use crate::scopes::Scope;
 use crate::terms::put_within;
-use mt_term::{Hyp, Hyps, MOST_DEEP, Name, Names, OutOfMemory, PlainEnv, Term, copy, deeper};
+use mt_term::{Hyp, Hyps, MAX_DEPTH, Name, Names, OutOfMemory, PlainEnv, Term, copy, deeper};
 use std::alloc::Global;
 
-// What stands around hypotheses: as binder groups, as lines of a goal, or as the variables of a hint.
+// What stands around hypotheses: as binder groups, as lines of a goal, or as the variables of a
+// hint.
 #[derive(Clone, Copy)]
 pub(crate) enum Style {
     Groups,
@@ -84,14 +85,14 @@ fn put_after(
     scope: &mut Scope,
     hyps: &[Hyp],
     parts: &[&Term],
-    deep: usize,
+    depth_left: usize,
 ) -> Result<(), OutOfMemory>
     requires { scope.old ≡ scope_of_names names.old [] }
     ensures text { OnOk result (out.new.items ≡ out.old.items ++ text_after (environment_of env.now) (style_of style) before.now names.old (hypotheses_of hyps.now) (trees_behind parts.now)) }
     ensures names { OnOk result (names.new ≡ names_after env.now.entries names.old (hypotheses_of hyps.now) (trees_behind parts.now)) }
     ensures scope { OnOk result (scope.new ≡ scope_of_names names.new []) }
 {
-    let deep = deeper(deep)?;
+    let depth_left = deeper(depth_left)?;
     match hyps {
         [] => Ok(()),
         [hyp, rest @ ..] => {
@@ -102,12 +103,12 @@ fn put_after(
                 &hyp.name,
                 rest,
                 parts,
-                MOST_DEEP,
+                MAX_DEPTH,
             )?;
             put(out, before)?;
             put(out, name.as_bytes())?;
             put(out, between(style))?;
-            put_within(alloc, out, env, scope, &hyp.ty, MOST_DEEP)?;
+            put_within(alloc, out, env, scope, &hyp.ty, MAX_DEPTH)?;
             put(out, after(style))?;
             add_name(names, scope, name)?;
             put_after(
@@ -120,7 +121,7 @@ fn put_after(
                 scope,
                 rest,
                 parts,
-                deep,
+                depth_left,
             )
         }
     }
@@ -151,7 +152,7 @@ pub(crate) fn put_telescope(
         &mut scope,
         hyps,
         parts,
-        MOST_DEEP,
+        MAX_DEPTH,
     )?;
     Ok(names)
 }
@@ -184,18 +185,18 @@ fn put_leading(
     hyps: &mut Vec<Hyp>,
     n: usize,
     t: &Term,
-    deep: usize,
+    depth_left: usize,
 ) -> Result<(), OutOfMemory>
     ensures { OnOk result (hypotheses_of hyps.new.items ≡ hypotheses_of hyps.old.items ++ leading n (tree_of t.now)) }
 {
-    let deep = deeper(deep)?;
+    let depth_left = deeper(depth_left)?;
     if n == 0 {
         return Ok(());
     }
     match t {
         Term::Prod(x, a, b) => {
             put_hyp(alloc, hyps, x, a)?;
-            put_leading(alloc, hyps, n - 1, b, deep)
+            put_leading(alloc, hyps, n - 1, b, depth_left)
         }
         _ => Ok(()),
     }
@@ -206,21 +207,21 @@ pub(crate) fn leading(alloc: Global, n: usize, t: &Term) -> Result<Vec<Hyp>, Out
     ensures { IfOk result (λ hyps. hypotheses_of hyps.items ≡ leading n (tree_of t.now)) }
 {
     let mut hyps = Vec::new(alloc);
-    put_leading(alloc, &mut hyps, n, t, MOST_DEEP)?;
+    put_leading(alloc, &mut hyps, n, t, MAX_DEPTH)?;
     Ok(hyps)
 }
 
 // What stands under at most so many products and abstractions.
 #[tactic(auto, using(crate::proofs::Telescoping::under_product, crate::proofs::Telescoping::under_abstraction))]
-pub(crate) fn under_binders(n: usize, t: &Term, deep: usize) -> Result<&Term, OutOfMemory>
+pub(crate) fn under_binders(n: usize, t: &Term, depth_left: usize) -> Result<&Term, OutOfMemory>
     ensures { IfOk result (λ u. tree_of u.now ≡ under_binders n (tree_of t.now)) }
 {
-    let deep = deeper(deep)?;
+    let depth_left = deeper(depth_left)?;
     if n == 0 {
         return Ok(t);
     }
     match t {
-        Term::Prod(_, _, b) | Term::Lam(_, _, b) => under_binders(n - 1, b, deep),
+        Term::Prod(_, _, b) | Term::Lam(_, _, b) => under_binders(n - 1, b, depth_left),
         _ => Ok(t),
     }
 }
@@ -246,10 +247,11 @@ pub(crate) fn put_under(
     ensures { OnOk result (out.new.items ≡ out.old.items ++ term_text (environment_of env.now) (scope_of_names names.now []) (tree_of t.now)) }
 {
     let mut scope = scope_of(alloc, names)?;
-    put_within(alloc, out, env, &mut scope, t, MOST_DEEP)
+    put_within(alloc, out, env, &mut scope, t, MAX_DEPTH)
 }
 
-/// Appends the text of a term whose variables are shown by these names, the newest last.
+/// Appends the text of a term whose variables are shown by these names, the newest last; nothing
+/// where memory is wanting.
 #[tactic(auto, unfolding(crate::specs::Telescopes::printed))]
 pub fn put_term(
     alloc: Global,
@@ -258,9 +260,12 @@ pub fn put_term(
     scope: &Names,
     t: &Term,
 ) -> Result<(), OutOfMemory>
-    ensures { OnOk result (out.new.items ≡ out.old.items ++ printed (environment_of env.now) scope.now (tree_of t.now)) }
+    ensures text { OnOk result (out.new.items ≡ out.old.items ++ printed (environment_of env.now) scope.now (tree_of t.now)) }
+    ensures kept { OnErr result (out.new.items ≡ out.old.items) }
 {
-    put_under(alloc, out, env, scope.as_slice(), t)
+    let mut text = Vec::new(alloc);
+    put_under(alloc, &mut text, env, scope.as_slice(), t)?;
+    put_whole(out, &text)
 }
 
 // The oldest names, at most so many.

@@ -11,7 +11,7 @@ use crate::choosing::shown_binder;
 use crate::scopes::Scope;
 use crate::sorts::put_sort;
 use crate::walks::{constructor_name, entry_name};
-use mt_term::{Branches, MOST_DEEP, Name, Names, OutOfMemory, PlainEnv, Term, Terms, deeper};
+use mt_term::{Branches, MAX_DEPTH, Name, Names, OutOfMemory, PlainEnv, Term, Terms, deeper};
 use std::alloc::Global;
 
 fn is_binder(t: &Term) -> bool
@@ -43,38 +43,38 @@ pub(crate) fn put_within(
     env: &PlainEnv,
     scope: &mut Scope,
     t: &Term,
-    deep: usize,
+    depth_left: usize,
 ) -> Result<(), OutOfMemory>
     ensures text { OnOk result (out.new.items ≡ out.old.items ++ term_text (environment_of env.now) scope.old (tree_of t.now)) }
     ensures scope { OnOk result (scope.new ≡ scope.old) }
 {
-    let deep = deeper(deep)?;
+    let depth_left = deeper(depth_left)?;
     match t {
         Term::Var(i) => put(out, scope.name(*i)),
         Term::Sort(s) => put_sort(alloc, out, &env.names, s),
-        Term::Prod(x, a, b) => put_product(alloc, out, env, scope, x, a, b, deep),
-        Term::Lam(x, a, b) => put_abstraction(alloc, out, env, scope, x, a, b, deep),
+        Term::Prod(x, a, b) => put_product(alloc, out, env, scope, x, a, b, depth_left),
+        Term::Lam(x, a, b) => put_abstraction(alloc, out, env, scope, x, a, b, depth_left),
         Term::App(f, a) => {
-            put_enclosed(alloc, out, env, scope, is_binder(f), f, deep)?;
+            put_enclosed(alloc, out, env, scope, is_binder(f), f, depth_left)?;
             put(out, b" ")?;
-            put_enclosed(alloc, out, env, scope, is_compound(a), a, deep)
+            put_enclosed(alloc, out, env, scope, is_compound(a), a, depth_left)
         }
         Term::Const(n) | Term::Ind(n) => put(out, entry_name(&env.entries, *n)),
         Term::Con(e, k) => put(out, constructor_name(&env.entries, *e, *k)),
         Term::Match(e, r, c, bs) => {
             put(out, b"match ")?;
-            put_within(alloc, out, env, scope, c, deep)?;
+            put_within(alloc, out, env, scope, c, depth_left)?;
             put(out, b" return ")?;
-            put_within(alloc, out, env, scope, r, deep)?;
+            put_within(alloc, out, env, scope, r, depth_left)?;
             put(out, b" with [")?;
-            put_branches(alloc, out, env, scope, *e, 0, bs, deep)?;
+            put_branches(alloc, out, env, scope, *e, 0, bs, depth_left)?;
             put(out, b" ]")
         }
         Term::Meta(n, ts) => {
             put(out, b"?")?;
             put_number(alloc, out, *n as u64)?;
             put(out, b"[")?;
-            put_terms(alloc, out, env, scope, ts, deep)?;
+            put_terms(alloc, out, env, scope, ts, depth_left)?;
             put(out, b"]")
         }
     }
@@ -89,17 +89,17 @@ fn put_enclosed(
     scope: &mut Scope,
     wrapped: bool,
     t: &Term,
-    deep: usize,
+    depth_left: usize,
 ) -> Result<(), OutOfMemory>
     ensures text { OnOk result (out.new.items ≡ out.old.items ++ enclosed wrapped (term_text (environment_of env.now) scope.old (tree_of t.now))) }
     ensures scope { OnOk result (scope.new ≡ scope.old) }
 {
-    let deep = deeper(deep)?;
+    let depth_left = deeper(depth_left)?;
     if !wrapped {
-        return put_within(alloc, out, env, scope, t, deep);
+        return put_within(alloc, out, env, scope, t, depth_left);
     }
     put(out, b"(")?;
-    put_within(alloc, out, env, scope, t, deep)?;
+    put_within(alloc, out, env, scope, t, depth_left)?;
     put(out, b")")
 }
 
@@ -112,28 +112,28 @@ fn put_product(
     x: &Name,
     a: &Term,
     b: &Term,
-    deep: usize,
+    depth_left: usize,
 ) -> Result<(), OutOfMemory>
     ensures text { OnOk result (out.new.items ≡ out.old.items ++ term_text (environment_of env.now) scope.old (Prod x.now (tree_of a.now) (tree_of b.now))) }
     ensures scope { OnOk result (scope.new ≡ scope.old) }
 {
-    let deep = deeper(deep)?;
-    let shown = shown_binder(alloc, &env.entries, scope, x, 0, b, deep)?;
+    let depth_left = deeper(depth_left)?;
+    let shown = shown_binder(alloc, &env.entries, scope, x, 0, b, depth_left)?;
     match &shown {
         Some(name) => {
             put(out, b"\xe2\x88\x80")?;
             put(out, name.as_bytes())?;
             put(out, b":")?;
-            put_within(alloc, out, env, scope, a, deep)?;
+            put_within(alloc, out, env, scope, a, depth_left)?;
             put(out, b".")?;
         }
         None => {
-            put_enclosed(alloc, out, env, scope, is_binder(a), a, deep)?;
+            put_enclosed(alloc, out, env, scope, is_binder(a), a, depth_left)?;
             put(out, b" \xe2\x86\x92 ")?;
         }
     }
     scope.push(shown)?;
-    put_within(alloc, out, env, scope, b, deep)?;
+    put_within(alloc, out, env, scope, b, depth_left)?;
     scope.pop();
     Ok(())
 }
@@ -147,20 +147,20 @@ fn put_abstraction(
     x: &Name,
     a: &Term,
     b: &Term,
-    deep: usize,
+    depth_left: usize,
 ) -> Result<(), OutOfMemory>
     ensures text { OnOk result (out.new.items ≡ out.old.items ++ term_text (environment_of env.now) scope.old (Lam x.now (tree_of a.now) (tree_of b.now))) }
     ensures scope { OnOk result (scope.new ≡ scope.old) }
 {
-    let deep = deeper(deep)?;
-    let shown = shown_binder(alloc, &env.entries, scope, x, 0, b, deep)?;
+    let depth_left = deeper(depth_left)?;
+    let shown = shown_binder(alloc, &env.entries, scope, x, 0, b, depth_left)?;
     put(out, b"\xce\xbb")?;
     put_binder(out, &shown)?;
     put(out, b":")?;
-    put_within(alloc, out, env, scope, a, deep)?;
+    put_within(alloc, out, env, scope, a, depth_left)?;
     put(out, b".")?;
     scope.push(shown)?;
-    put_within(alloc, out, env, scope, b, deep)?;
+    put_within(alloc, out, env, scope, b, depth_left)?;
     scope.pop();
     Ok(())
 }
@@ -173,17 +173,17 @@ fn put_terms(
     env: &PlainEnv,
     scope: &mut Scope,
     ts: &Terms,
-    deep: usize,
+    depth_left: usize,
 ) -> Result<(), OutOfMemory>
     ensures text { OnOk result (out.new.items ≡ out.old.items ++ terms_text (environment_of env.now) scope.old (trees_of ts.now)) }
     ensures scope { OnOk result (scope.new ≡ scope.old) }
 {
-    let deep = deeper(deep)?;
+    let depth_left = deeper(depth_left)?;
     match ts {
         Terms::End => Ok(()),
         Terms::Item(t, ts) => {
-            put_within(alloc, out, env, scope, t, deep)?;
-            put_more_terms(alloc, out, env, scope, ts, deep)
+            put_within(alloc, out, env, scope, t, depth_left)?;
+            put_more_terms(alloc, out, env, scope, ts, depth_left)
         }
     }
 }
@@ -195,18 +195,18 @@ fn put_more_terms(
     env: &PlainEnv,
     scope: &mut Scope,
     ts: &Terms,
-    deep: usize,
+    depth_left: usize,
 ) -> Result<(), OutOfMemory>
     ensures text { OnOk result (out.new.items ≡ out.old.items ++ more_terms_text (environment_of env.now) scope.old (trees_of ts.now)) }
     ensures scope { OnOk result (scope.new ≡ scope.old) }
 {
-    let deep = deeper(deep)?;
+    let depth_left = deeper(depth_left)?;
     match ts {
         Terms::End => Ok(()),
         Terms::Item(t, ts) => {
             put(out, b";")?;
-            put_within(alloc, out, env, scope, t, deep)?;
-            put_more_terms(alloc, out, env, scope, ts, deep)
+            put_within(alloc, out, env, scope, t, depth_left)?;
+            put_more_terms(alloc, out, env, scope, ts, depth_left)
         }
     }
 }
@@ -221,12 +221,12 @@ fn put_branches(
     e: usize,
     k: usize,
     bs: &Branches,
-    deep: usize,
+    depth_left: usize,
 ) -> Result<(), OutOfMemory>
     ensures text { OnOk result (out.new.items ≡ out.old.items ++ arms_text (environment_of env.now) scope.old e k (arms_of bs.now)) }
     ensures scope { OnOk result (scope.new ≡ scope.old) }
 {
-    let deep = deeper(deep)?;
+    let depth_left = deeper(depth_left)?;
     match bs {
         Branches::End => Ok(()),
         Branches::Item(b, bs) => {
@@ -240,10 +240,10 @@ fn put_branches(
                 scope,
                 branch.names.as_slice(),
                 &branch.body,
-                deep,
+                depth_left,
             )?;
             let next = next_number(k)?;
-            put_branches(alloc, out, env, scope, e, next, bs, deep)
+            put_branches(alloc, out, env, scope, e, next, bs, depth_left)
         }
     }
 }
@@ -269,24 +269,24 @@ fn put_branch(
     scope: &mut Scope,
     names: &[Name],
     body: &Term,
-    deep: usize,
+    depth_left: usize,
 ) -> Result<(), OutOfMemory>
     ensures text { OnOk result (out.new.items ≡ out.old.items ++ (pattern_text env.now.entries scope.old names.now (tree_of body.now) ++ gives_text
         ++ term_text (environment_of env.now) (branch_scope env.now.entries scope.old names.now (tree_of body.now)) (tree_of body.now))) }
     ensures scope { OnOk result (scope.new ≡ scope.old) }
 {
-    let deep = deeper(deep)?;
+    let depth_left = deeper(depth_left)?;
     match names {
         [] => {
             put(out, b" \xe2\x87\x92 ")?;
-            put_within(alloc, out, env, scope, body, deep)
+            put_within(alloc, out, env, scope, body, depth_left)
         }
         [x, rest @ ..] => {
-            let shown = shown_binder(alloc, &env.entries, scope, x, rest.len(), body, deep)?;
+            let shown = shown_binder(alloc, &env.entries, scope, x, rest.len(), body, depth_left)?;
             put(out, b" ")?;
             put_binder(out, &shown)?;
             scope.push(shown)?;
-            put_branch(alloc, out, env, scope, rest, body, deep)?;
+            put_branch(alloc, out, env, scope, rest, body, depth_left)?;
             scope.pop();
             Ok(())
         }

@@ -1,6 +1,6 @@
-// Walks through a term under a binder: whether its variable is used, and whether a name occurs.
+// Whether the variable of a binder is used under it, and the names of entries and constructors.
 ghost use Rattle.std.specs.Prelude.{◌≡◌, ◌+◌, IfOk};
-ghost use Rattle.mt_printer.specs.Chosen.{uses, uses_all, uses_arms, occurring, occurring_all, occurring_arms, is_one_of, entry_name, constructor_name};
+ghost use Rattle.mt_printer.specs.Chosen.{uses, uses_all, uses_arms, entry_name, constructor_name};
 ghost use Rattle.mt_term.specs.Naming.{name_of};
 ghost use Rattle.mt_term.specs.EntryOf.{declaration_of};
 ghost use Rattle.mt_term.specs.TreeOf.{tree_of, trees_of, arms_of};
@@ -16,60 +16,60 @@ fn past(index: usize, binders: usize) -> Result<usize, OutOfMemory>
 
 // Whether variable `i` stands in a term.
 #[cycle(uses)]
-pub(crate) fn uses(t: &Term, i: usize, deep: usize) -> Result<bool, OutOfMemory>
+pub(crate) fn uses(t: &Term, i: usize, depth_left: usize) -> Result<bool, OutOfMemory>
     ensures { IfOk result (λ answer. answer ≡ uses i (tree_of t.now)) }
 {
-    let deep = deeper(deep)?;
+    let depth_left = deeper(depth_left)?;
     match t {
         Term::Var(j) => Ok(i == *j),
         Term::Sort(_) | Term::Const(_) | Term::Ind(_) | Term::Con(_, _) => Ok(false),
         Term::Prod(_, a, b) => {
-            let first = uses(a, i, deep)?;
-            Ok(first || uses(b, past(i, 1)?, deep)?)
+            let first = uses(a, i, depth_left)?;
+            Ok(first || uses(b, past(i, 1)?, depth_left)?)
         }
         Term::Lam(_, a, b) => {
-            let first = uses(a, i, deep)?;
-            Ok(first || uses(b, past(i, 1)?, deep)?)
+            let first = uses(a, i, depth_left)?;
+            Ok(first || uses(b, past(i, 1)?, depth_left)?)
         }
         Term::App(f, a) => {
-            let first = uses(f, i, deep)?;
-            Ok(first || uses(a, i, deep)?)
+            let first = uses(f, i, depth_left)?;
+            Ok(first || uses(a, i, depth_left)?)
         }
         Term::Match(_, r, c, bs) => {
-            let first = uses(r, i, deep)?;
-            let head = first || uses(c, i, deep)?;
-            Ok(head || uses_branches(bs, i, deep)?)
+            let first = uses(r, i, depth_left)?;
+            let head = first || uses(c, i, depth_left)?;
+            Ok(head || uses_branches(bs, i, depth_left)?)
         }
-        Term::Meta(_, ts) => uses_terms(ts, i, deep),
+        Term::Meta(_, ts) => uses_terms(ts, i, depth_left),
     }
 }
 
 #[cycle(uses)]
-fn uses_terms(ts: &Terms, i: usize, deep: usize) -> Result<bool, OutOfMemory>
+fn uses_terms(ts: &Terms, i: usize, depth_left: usize) -> Result<bool, OutOfMemory>
     ensures { IfOk result (λ answer. answer ≡ uses_all i (trees_of ts.now)) }
 {
-    let deep = deeper(deep)?;
+    let depth_left = deeper(depth_left)?;
     match ts {
         Terms::End => Ok(false),
         Terms::Item(t, ts) => {
-            let first = uses(t, i, deep)?;
-            Ok(first || uses_terms(ts, i, deep)?)
+            let first = uses(t, i, depth_left)?;
+            Ok(first || uses_terms(ts, i, depth_left)?)
         }
     }
 }
 
 #[cycle(uses)]
-fn uses_branches(bs: &Branches, i: usize, deep: usize) -> Result<bool, OutOfMemory>
+fn uses_branches(bs: &Branches, i: usize, depth_left: usize) -> Result<bool, OutOfMemory>
     ensures { IfOk result (λ answer. answer ≡ uses_arms i (arms_of bs.now)) }
 {
-    let deep = deeper(deep)?;
+    let depth_left = deeper(depth_left)?;
     match bs {
         Branches::End => Ok(false),
         Branches::Item(b, bs) => {
             let branch = b;
             let inner = past(i, branch.names.len())?;
-            let first = uses(&branch.body, inner, deep)?;
-            Ok(first || uses_branches(bs, i, deep)?)
+            let first = uses(&branch.body, inner, depth_left)?;
+            Ok(first || uses_branches(bs, i, depth_left)?)
         }
     }
 }
@@ -106,72 +106,5 @@ pub(crate) fn constructor_name(entries: &Entries, e: usize, k: usize) -> &[u8]
             None => b"",
         },
         _ => b"",
-    }
-}
-
-// Whether an entry or constructor of a name stands in a term.
-#[cycle(occurs)]
-pub(crate) fn occurs(
-    entries: &Entries,
-    t: &Term,
-    name: &[u8],
-    deep: usize,
-) -> Result<bool, OutOfMemory>
-    ensures { IfOk result (λ answer. answer ≡ is_one_of (occurring entries.now (tree_of t.now)) name.now) }
-{
-    let deep = deeper(deep)?;
-    match t {
-        Term::Var(_) | Term::Sort(_) => Ok(false),
-        Term::Prod(_, a, b) | Term::Lam(_, a, b) | Term::App(a, b) => {
-            let first = occurs(entries, a, name, deep)?;
-            Ok(first || occurs(entries, b, name, deep)?)
-        }
-        Term::Const(n) | Term::Ind(n) => Ok(entry_name(entries, *n) == name),
-        Term::Con(e, k) => Ok(constructor_name(entries, *e, *k) == name),
-        Term::Match(_, r, c, bs) => {
-            let first = occurs(entries, r, name, deep)?;
-            let head = first || occurs(entries, c, name, deep)?;
-            Ok(head || occurs_in_branches(entries, bs, name, deep)?)
-        }
-        Term::Meta(_, ts) => occurs_in_terms(entries, ts, name, deep),
-    }
-}
-
-#[cycle(occurs)]
-fn occurs_in_terms(
-    entries: &Entries,
-    ts: &Terms,
-    name: &[u8],
-    deep: usize,
-) -> Result<bool, OutOfMemory>
-    ensures { IfOk result (λ answer. answer ≡ is_one_of (occurring_all entries.now (trees_of ts.now)) name.now) }
-{
-    let deep = deeper(deep)?;
-    match ts {
-        Terms::End => Ok(false),
-        Terms::Item(t, ts) => {
-            let first = occurs(entries, t, name, deep)?;
-            Ok(first || occurs_in_terms(entries, ts, name, deep)?)
-        }
-    }
-}
-
-#[cycle(occurs)]
-fn occurs_in_branches(
-    entries: &Entries,
-    bs: &Branches,
-    name: &[u8],
-    deep: usize,
-) -> Result<bool, OutOfMemory>
-    ensures { IfOk result (λ answer. answer ≡ is_one_of (occurring_arms entries.now (arms_of bs.now)) name.now) }
-{
-    let deep = deeper(deep)?;
-    match bs {
-        Branches::End => Ok(false),
-        Branches::Item(b, bs) => {
-            let branch = b;
-            let first = occurs(entries, &branch.body, name, deep)?;
-            Ok(first || occurs_in_branches(entries, bs, name, deep)?)
-        }
     }
 }

@@ -23,7 +23,7 @@ use Rattle.mt_reading_laws.proofs.Binders.{lambda-whole, product-whole, arrow-wh
 
 -- what is asked of a term in a scope, with room for terms within it
 record Fits (E : Environment) (s : Scope) (t : Tree) (room : ℕ) : Type 0 where
-  pub deep : open_within t ≤ room
+  pub depth_left : open_within t ≤ room
   pub forms : HasForms E t
   pub names : HasNames E s t
   pub within : Within E s t
@@ -69,19 +69,19 @@ in-parentheses : (E : Environment) (t : Tree) (s : Scope) (room : ℕ) (text res
 in-parentheses E t s zero text rest at r d f n w e = absurd (omega arith)
 in-parentheses E t s (suc room) text rest at r d f n w e =
     atom-of-whole at room (e ∙ enclosed-flat (term_text E s t) rest) (text-head E s t f n w (41 ∷ rest))
-    (λ place h. r.whole s room text (41 ∷ rest) place (record { deep = omega arith; forms = f; names = n; within = w }) (closes-close text rest) h)
+    (λ place h. r.whole s room text (41 ∷ rest) place (record { depth_left = omega arith; forms = f; names = n; within = w }) (closes-close text rest) h)
 
 -- as an argument
 argument-by : (E : Environment) (t : Tree) (s : Scope) (room : ℕ) (text rest : List ℕ) (at : ℕ) (q : Bool) → is_compound t ≡ q → Readable E t → in_parentheses q (open_within t) ≤ room → HasForms E t → HasNames E s t
     → Within E s t → EndsName rest → drop at text ≡ enclosed q (term_text E s t) ++ rest → AtomRead E (names_of s) t (term room text) text at rest
 argument-by E t s room text rest at true q r d f n w c e = in-parentheses E t s room text rest at r d f n w e
-argument-by E t s room text rest at false q r d f n w c e = r.atom s room text rest at q (record { deep = d; forms = f; names = n; within = w }) c e
+argument-by E t s room text rest at false q r d f n w c e = r.atom s room text rest at q (record { depth_left = d; forms = f; names = n; within = w }) c e
 
 -- as a function or the left of an arrow
 function-by : (E : Environment) (t : Tree) (s : Scope) (room : ℕ) (text rest : List ℕ) (at : ℕ) (p : Bool) → is_binder t ≡ p → Readable E t → in_parentheses p (open_within t) ≤ room → HasForms E t → HasNames E s t
     → Within E s t → EndsName rest → drop at text ≡ enclosed p (term_text E s t) ++ rest → SpineRead E (names_of s) t (term room text) text at rest
 function-by E t s room text rest at true p r d f n w c e = spine-of-atom (in-parentheses E t s room text rest at r d f n w e)
-function-by E t s room text rest at false p r d f n w c e = r.spine s room text rest at p (record { deep = d; forms = f; names = n; within = w }) c e
+function-by E t s room text rest at false p r d f n w c e = r.spine s room text rest at p (record { depth_left = d; forms = f; names = n; within = w }) c e
 
 -- ---- the forms
 
@@ -96,7 +96,7 @@ app-spine E g a rg ra s room text rest at f c e =
     let q : Bool = is_compound a in
     let tg : List ℕ = term_text E s g in
     let ta : List ℕ = term_text E s a in
-    let d : max (in_parentheses p (open_within g)) (in_parentheses q (open_within a)) ≤ room = f.deep in
+    let d : max (in_parentheses p (open_within g)) (in_parentheses q (open_within a)) ≤ room = f.depth_left in
     let more : List ℕ = enclosed q ta ++ rest in
     let head = function-by E g s room text (32 ∷ more) at p refl rg (omega arith) f.forms.0 f.names.0 (left-of-app E s g a f.within) (blank-ends more) (e ∙ app-flat p q tg ta rest) in
     let less : suc (length rest) ≤ length (32 ∷ more) = let l : length (32 ∷ more) ≡ suc (length more) = refl in omega (arith, l, length-append (enclosed q ta) rest) in
@@ -111,15 +111,15 @@ of-app E g a rg ra = record {
 
 lambda-by : (E : Environment) (x : Bytes) (A b : Tree) → Readable E A → Readable E b → (s : Scope) (room : ℕ) (text rest : List ℕ) (at : ℕ) → Fits E s (Lam x A b) room → Closes text rest
     → drop at text ≡ term_text E s (Lam x A b) ++ rest → WholeRead E (names_of s) (Lam x A b) room text at rest
-lambda-by E x A b ra rb s zero text rest at f c e = absurd (let d : suc (max (open_within A) (open_within b)) ≤ 0 = f.deep in omega arith)
+lambda-by E x A b ra rb s zero text rest at f c e = absurd (let d : suc (max (open_within A) (open_within b)) ≤ 0 = f.depth_left in omega arith)
 lambda-by E x A b ra rb s (suc room) text rest at f c e =
     let o : Option Bytes = shown_binder E.entries s x 0 b in
     let ta : List ℕ = term_text E s A in
     let tb : List ℕ = term_text E (o ∷ s) b in
-    let d : suc (max (open_within A) (open_within b)) ≤ suc room = f.deep in
+    let d : suc (max (open_within A) (open_within b)) ≤ suc room = f.depth_left in
     lambda-whole room at (binder_text o) ta tb x A b (binder-word o f.names.0) (binder-free o f.names.0)
-    (λ place h. ra.whole s room text (46 ∷ (tb ++ rest)) place (record { deep = omega arith; forms = f.forms.0; names = f.names.1; within = left-of-lambda E s x A b f.within }) (closes-dot text (tb ++ rest)) h)
-    (λ place h. rb.whole (o ∷ s) room text rest place (record { deep = omega arith; forms = f.forms.1; names = f.names.2; within = under-lambda E s x A b f.forms f.names f.within }) c h)
+    (λ place h. ra.whole s room text (46 ∷ (tb ++ rest)) place (record { depth_left = omega arith; forms = f.forms.0; names = f.names.1; within = left-of-lambda E s x A b f.within }) (closes-dot text (tb ++ rest)) h)
+    (λ place h. rb.whole (o ∷ s) room text rest place (record { depth_left = omega arith; forms = f.forms.1; names = f.names.2; within = under-lambda E s x A b f.forms f.names f.within }) c h)
     (e ∙ lambda-flat (binder_text o) ta tb rest)
 
 -- a product, used or not
@@ -132,8 +132,8 @@ product-by E x A B ra rb s (suc room) text rest at name true d f n na nb wa wb c
     let ta : List ℕ = term_text E s A in
     let tb : List ℕ = term_text E (Some name ∷ s) B in
     product-whole room at name ta tb x A B n.word n.free
-    (λ place h. ra.whole s room text (46 ∷ (tb ++ rest)) place (record { deep = omega arith; forms = f.0; names = na; within = wa }) (closes-dot text (tb ++ rest)) h)
-    (λ place h. rb.whole (Some name ∷ s) room text rest place (record { deep = omega arith; forms = f.1; names = nb; within = wb }) c h)
+    (λ place h. ra.whole s room text (46 ∷ (tb ++ rest)) place (record { depth_left = omega arith; forms = f.0; names = na; within = wa }) (closes-dot text (tb ++ rest)) h)
+    (λ place h. rb.whole (Some name ∷ s) room text rest place (record { depth_left = omega arith; forms = f.1; names = nb; within = wb }) c h)
     (e ∙ product-flat name (is_binder A) ta tb rest)
 product-by E x A B ra rb s zero text rest at name false d f n na nb wa wb c e = absurd (omega arith)
 product-by E x A B ra rb s (suc room) text rest at name false d f n na nb wa wb c e =
@@ -143,7 +143,7 @@ product-by E x A B ra rb s (suc room) text rest at name false d f n na nb wa wb 
     let more : List ℕ = 226 ∷ 134 ∷ 146 ∷ 32 ∷ (tb ++ rest) in
     arrow-whole room x A B
     (function-by E A s (suc room) text (32 ∷ more) at p refl ra (omega arith) f.0 na wa (blank-ends more) (e ∙ arrow-flat p ta tb rest))
-    (λ place h. rb.whole (None ∷ s) room text rest place (record { deep = omega arith; forms = f.1; names = nb; within = wb }) c h)
+    (λ place h. rb.whole (None ∷ s) room text rest place (record { depth_left = omega arith; forms = f.1; names = nb; within = wb }) c h)
 
 -- ---- all terms
 
@@ -155,7 +155,7 @@ readable E apart (Prod x A B) =
     let ra = readable E apart A in
     let rb = readable E apart B in
     of-whole E (Prod x A B) refl refl (λ s room text rest at f c e.
-    product-by E x A B ra rb s room text rest at (chosen E.entries s x (B ∷ [])) (uses 0 B) f.deep f.forms f.names.0 f.names.1 f.names.2
+    product-by E x A B ra rb s room text rest at (chosen E.entries s x (B ∷ [])) (uses 0 B) f.depth_left f.forms f.names.0 f.names.1 f.names.2
     (left-of-product E s x A B f.within) (under-product E s x A B f.forms f.names f.within) c e)
 readable E apart (Lam x A b) =
     let ra = readable E apart A in
@@ -170,10 +170,10 @@ readable E apart (Meta m ts) = of-none E (Meta m ts) (λ h. h)
 
 pub reading-back : ReadingBack
 unfolding is_alike
-reading-back E t apart closed forms names deep small =
+reading-back E t apart closed forms names depth_left small =
     let x : List ℕ = term_text E [] t in
     let text : List ℕ = x ++ codes " ." in
-    let r = (readable E apart t).whole [] 199 text (32 ∷ 46 ∷ []) 0 (record { deep = omega arith; forms = forms; names = names; within = closed-within E t forms closed small }) (closes-end text []) (drop_at [] text 0 refl) in
+    let r = (readable E apart t).whole [] 199 text (32 ∷ 46 ∷ []) 0 (record { depth_left = omega arith; forms = forms; names = names; within = closed-within E t forms closed small }) (closes-end text []) (drop_at [] text 0 refl) in
     let end : r.read.end ≡ length x =
     let a : length (drop r.read.end text) ≡ 2 = ap length r.read.after in
     omega (arith, a, length-drop r.read.end text, length-append x (codes " .")) in

@@ -11,7 +11,7 @@ use Rattle.mt_term.specs.Trees.{Tree, Bytes, Var, Sort, Const}
 use Rattle.mt_term.specs.Declarations.{Environment}
 use Rattle.mt_term.specs.Naming.{named}
 use Rattle.mt_term.specs.Alike.{alike, same_atoms, same_universe}
-use Rattle.mt_term.specs.Universes.{normal_form, fits, fits_atom}
+use Rattle.mt_term.specs.UniverseForms.{normal_form, fits, fits_atom}
 use Rattle.mt_term.proofs.UniverseNormalLaws.{normal_form_kept}
 use Rattle.mt_term.specs.declared.universes.Atom.{Atom}
 use Rattle.mt_term.specs.declared.universes.UnivExpr.{UnivExpr}

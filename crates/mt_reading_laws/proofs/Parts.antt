@@ -6,7 +6,7 @@ use Rattle.std.proofs.lemmas.Bool.{or_cases, eqb-true}
 use Rattle.std.proofs.lemmas.Str.{chars-nil}
 use Rattle.mt_lexer.specs.Tokens.{is_start}
 use Rattle.mt_term.specs.Trees.{Tree, Bytes, Var, Sort, Prod, Lam, App, Const, Ind, Con, Match, Meta}
-use Rattle.mt_term.specs.Scopes.{Plain}
+use Rattle.mt_calculus.specs.Scopes.{Plain}
 use Rattle.mt_term.specs.Declarations.{Environment}
 use Rattle.mt_printer.specs.Chosen.{Scope, shown_names, is_one_of, uses, occurring, base_name, chosen, shown_binder, entry_name}
 use Rattle.mt_printer.specs.TermText.{term_text, enclosed, product_text, binder_text, lambda_sign, is_binder, is_compound}

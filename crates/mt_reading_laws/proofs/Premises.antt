@@ -8,7 +8,7 @@ use Rattle.unicode_ident.proofs.Computing.{unicode_ident}
 use Rattle.mt_term.specs.Trees.{Bytes, Sort, Const}
 use Rattle.mt_term.specs.Declarations.{Declaration, Axiom}
 use Rattle.mt_term.specs.Naming.{name_of, as_term, named}
-use Rattle.mt_term.specs.Scopes.{Plain}
+use Rattle.mt_calculus.specs.Scopes.{Plain}
 use Rattle.mt_term.specs.declared.universes.Sort.TheVariants.{Prop}
 use Rattle.mt_printer.specs.Chosen.{fit_name}
 use Rattle.mt_printer.specs.TermText.{term_text}

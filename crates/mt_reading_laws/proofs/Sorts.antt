@@ -8,7 +8,7 @@ use Rattle.mt_lexer.specs.declared.gaps.Piece.TheVariants.{Other}
 use Rattle.mt_lexer.specs.declared.TokenKind.TheVariants as kind
 use Rattle.mt_lexer.specs.Tokens.{piece, is_continue, is_digit}
 use Rattle.mt_term.specs.declared.universes.Atom.{Atom}
-use Rattle.mt_term.specs.Declarations.{Syntax}
+use Rattle.mt_term.specs.Reasons.{Syntax}
 use Rattle.mt_term_parser.specs.declared.raw.Part.{Part}
 use Rattle.mt_term_parser.specs.declared.raw.Part.TheVariants as part
 use Rattle.mt_term_parser.specs.Readings.{Got, Stops, then_read, many, many_from, word_of, is_name, sign, number, sees_sign, sign_from}

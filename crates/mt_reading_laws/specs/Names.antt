@@ -4,7 +4,8 @@ use Rattle.std.specs.List.{list_all}
 use Rattle.std.specs.Str.{IsUtf8, chars}
 use Rattle.mt_lexer.specs.Tokens.{is_start, is_continue, is_reserved}
 
--- text that is one word: a character that begins a name and others that continue it, 255 bytes at most
+-- text that is one word: a character that begins a name and others that continue it, 255 bytes at
+-- most
 pub record IsWord (x : List ℕ) : Type 0 where
   pub utf8 : IsUtf8 x
   pub starts : is_start (slice_index (chars x) 0) ≡ true

@@ -1,10 +1,13 @@
--- The law of reading back: the text of a closed term, read and taken by its names, is the term but for names of binders.
-use Rattle.std.specs.Prelude.{◌≡◌, ◌<◌, ◌≤◌, ◌^◌, ℕ, suc, true, false, Bool, max, if◌then◌else◌, List, [], ◌∷◌, ◌++◌, length, codes, Option, Some, None, slice_get}
-use Rattle.mt_term.specs.Trees.{Tree, Bytes, Var, Sort, Prod, Lam, App, Const, Ind, Con, Match, Meta}
+-- The law of reading back: the text of a closed term, read and taken by its names, is the term but
+-- for names of binders.
+use Rattle.std.specs.Prelude.{◌≡◌, ◌<◌, ◌≤◌, ◌^◌, ℕ, suc, true, false, Bool, max, if◌then◌else◌}
+use Rattle.std.specs.Prelude.{List, [], ◌∷◌, ◌++◌, length, codes, Option, Some, None, slice_get}
+use Rattle.mt_term.specs.Trees.{Tree, Bytes, Var, Sort, Prod, Lam, App, Const, Ind, Con, Match}
+use Rattle.mt_term.specs.Trees.{Meta}
 use Rattle.mt_term.specs.Declarations.{Declaration, Environment}
-use Rattle.mt_term.specs.Scopes.{Plain}
+use Rattle.mt_calculus.specs.Scopes.{Plain}
 use Rattle.mt_term.specs.Naming.{name_of, as_term, named}
-use Rattle.mt_term.specs.Universes.{IsNormal, fits}
+use Rattle.mt_term.specs.UniverseForms.{IsNormal, fits}
 use Rattle.mt_term.specs.Alike.{is_alike}
 use Rattle.mt_term.specs.declared.universes.Atom.{Atom}
 use Rattle.mt_term.specs.declared.universes.Sort.{Sort as AnySort}
@@ -19,8 +22,12 @@ use Rattle.mt_reading_laws.specs.Names.{IsName}
 
 -- no two entries, and no two universes, have one name
 pub record AreApart (E : Environment) : Type 0 where
-  pub entries : (n : ℕ) (d : Declaration) → slice_get E.entries n ≡ Some d → named E.entries (name_of d) ≡ Some (as_term n d)
-  pub universes : (n : ℕ) (x : Bytes) → slice_get E.names n ≡ Some x → first_place E.names x ≡ Some n
+  pub entries : (n : ℕ) (d : Declaration)
+      → slice_get E.entries n ≡ Some d
+      → named E.entries (name_of d) ≡ Some (as_term n d)
+  pub universes : (n : ℕ) (x : Bytes)
+      → slice_get E.names n ≡ Some x
+      → first_place E.names x ≡ Some n
 
 -- ---- forms
 
@@ -50,7 +57,8 @@ HasForms E (Meta n s) = ⊥
 
 abbrev pub AreUniverseNames : List Bytes → List Atom → Type 0
 AreUniverseNames names [] = Unit {0}
-AreUniverseNames names (a ∷ rest) = IsName (universe_name names a.name) × AreUniverseNames names rest
+AreUniverseNames names (a ∷ rest) =
+    IsName (universe_name names a.name) × AreUniverseNames names rest
 
 abbrev pub AreSortNames : List Bytes → AnySort → Type 0
 AreSortNames names sort.Prop = Unit {0}
@@ -64,8 +72,12 @@ IsShownName (Some x) = IsName x
 abbrev pub HasNames : Environment → Scope → Tree → Type 0
 HasNames E s (Var i) = Unit {0}
 HasNames E s (Sort r) = AreSortNames E.names r
-HasNames E s (Prod x A B) = IsShownName (shown_binder E.entries s x 0 B) × HasNames E s A × HasNames E (shown_binder E.entries s x 0 B ∷ s) B
-HasNames E s (Lam x A b) = IsShownName (shown_binder E.entries s x 0 b) × HasNames E s A × HasNames E (shown_binder E.entries s x 0 b ∷ s) b
+HasNames E s (Prod x A B) =
+    IsShownName (shown_binder E.entries s x 0 B) × HasNames E s A
+    × HasNames E (shown_binder E.entries s x 0 B ∷ s) B
+HasNames E s (Lam x A b) =
+    IsShownName (shown_binder E.entries s x 0 b) × HasNames E s A
+    × HasNames E (shown_binder E.entries s x 0 b ∷ s) b
 HasNames E s (App f a) = HasNames E s f × HasNames E s a
 HasNames E s (Const c) = IsName (entry_name E.entries c)
 HasNames E s (Ind e) = Unit {0}
@@ -85,9 +97,13 @@ abbrev pub open_within : Tree → ℕ
 open_within (Var i) = 0
 open_within (Sort r) = 0
 open_within (Prod x A B) =
-    if uses 0 B then suc (max (open_within A) (open_within B)) else max (in_parentheses (is_binder A) (open_within A)) (suc (open_within B))
+    if uses 0 B
+    then suc (max (open_within A) (open_within B))
+    else max (in_parentheses (is_binder A) (open_within A)) (suc (open_within B))
 open_within (Lam x A b) = suc (max (open_within A) (open_within b))
-open_within (App f a) = max (in_parentheses (is_binder f) (open_within f)) (in_parentheses (is_compound a) (open_within a))
+open_within (App f a) =
+    max (in_parentheses (is_binder f) (open_within f))
+    (in_parentheses (is_compound a) (open_within a))
 open_within (Const c) = 0
 open_within (Ind e) = 0
 open_within (Con e k) = 0
@@ -108,9 +124,17 @@ pub record ReadsAs (E : Environment) (text : Bytes) (end : ℕ) (t : Tree) : Typ
   pub is_found : resolved E [] raw ≡ Found term
   pub is_same : is_alike t term ≡ true
 
--- The text of a closed term of these forms, whose printed names are names of the grammar and whose nesting is at most 200,
+-- The text of a closed term of these forms, whose printed names are names of the grammar and whose
+-- nesting is at most 200,
 -- followed by ` .`, is read up to its own end as the term, but for the names of binders.
 
 abbrev pub ReadingBack : Type 0
-ReadingBack = (E : Environment) (t : Tree) → AreApart E → Plain 0 t → HasForms E t → HasNames E [] t → nesting t ≤ 200
-    → length (term_text E [] t) < 2 ^ 64 → ReadsAs E (term_text E [] t ++ codes " .") (length (term_text E [] t)) t
+ReadingBack =
+    (E : Environment) (t : Tree)
+    → AreApart E
+    → Plain 0 t
+    → HasForms E t
+    → HasNames E [] t
+    → nesting t ≤ 200
+    → length (term_text E [] t) < 2 ^ 64
+    → ReadsAs E (term_text E [] t ++ codes " .") (length (term_text E [] t)) t

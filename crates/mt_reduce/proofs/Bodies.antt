@@ -2,7 +2,7 @@
 use Rattle.std.proofs.Common.{◌≡◌, Option, Some, None, ap}
 use Rattle.mt_term.specs.Trees.{Tree, Trees}
 use Rattle.mt_term.specs.Substitution.{under}
-use Rattle.mt_term.specs.WeakHead.{body_under}
+use Rattle.mt_rules.specs.WeakHead.{body_under}
 
 pub no-body : (o : Option Tree) (s : Trees) → None ≡ o → None ≡ body_under o s
 no-body o s e = ap (λ q. body_under q s) e

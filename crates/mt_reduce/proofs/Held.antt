@@ -2,11 +2,11 @@
 use Rattle.std.proofs.Common.{false, nat_eq, Option, Some, None, ℕ, zero, suc, ◌≤◌, ◌≡◌, List, length, refl, ap, sym, ◌∙◌, arith}
 use mathlib.Core.Path.{fun_ext}
 use Rattle.mt_term.specs.Trees.{Tree, Trees, Var, Meta, End, Item}
-use Rattle.mt_term.specs.Substitution.{sub, fill, up, then_as, put, substitute, count}
-use Rattle.mt_term.specs.Contraction.{products}
+use Rattle.mt_term.specs.Substitution.{sub, fill, up, then_as, count, products}
+use Rattle.mt_term.specs.Lifting.{put, substitute}
 use Rattle.mt_term.specs.Declarations.{Constructor}
-use Rattle.mt_term.specs.Inference.{constructor_type}
-use Rattle.mt_term.specs.WeakHead.{takes}
+use Rattle.mt_rules.specs.Inference.{constructor_type}
+use Rattle.mt_rules.specs.WeakHead.{takes}
 use Rattle.mt_term.proofs.Subst.{tr_ren, tr_sub, sub_id, meta_steady, steady_natural}
 use Rattle.mt_pool.specs.declared.nodes.TermId.{TermId}
 use Rattle.mt_pool.specs.Region.{tree_at, Kept}

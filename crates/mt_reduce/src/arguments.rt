@@ -1,12 +1,12 @@
 // Terms on arguments.
 ghost use Rattle.std.specs.Prelude.{◌≡◌, ◌<◌, ℕ, List, length, IfOk};
 ghost use Rattle.mt_layers.specs.Environments.{found_in, FoundBelow};
-ghost use Rattle.mt_pool.specs.Region.{tree_at, Kept, Names};
+ghost use Rattle.mt_pool.specs.Region.{tree_at, Kept, Denotes};
 ghost use Rattle.mt_reduce.specs.Arguments.{args_in, ArgsBelow};
 ghost use Rattle.mt_term.specs.Spines.{item_at, on_args, put_at};
 ghost use Rattle.mt_term.specs.Substitution.{all_but, apps, count};
 ghost use Rattle.mt_term.specs.Trees.{Tree};
-ghost use Rattle.mt_term.specs.WeakHead.{beta};
+ghost use Rattle.mt_rules.specs.WeakHead.{beta};
 
 use mt_pool::{Node, Pool, TermId};
 use mt_term::OutOfMemory;
@@ -66,7 +66,7 @@ pub fn apply(pool: &mut Pool, t: TermId, args: &Args) -> Result<TermId, OutOfMem
     requires term { t.at < length pool.old }
     requires others { ArgsBelow (length pool.old) args.now }
     ensures kept { Kept pool.old pool.new }
-    ensures tree { IfOk result (λ u. Names pool.new u (apps (tree_at pool.old t) (args_in pool.old args.now))) }
+    ensures tree { IfOk result (λ u. Denotes pool.new u (apps (tree_at pool.old t) (args_in pool.old args.now))) }
 {
     match args {
         Args::End => Ok(t),
@@ -90,7 +90,7 @@ pub fn apply_with(
     requires other { d.at < length pool.old }
     requires others { ArgsBelow (length pool.old) args.now }
     ensures kept { Kept pool.old pool.new }
-    ensures tree { IfOk result (λ u. Names pool.new u (apps (tree_at pool.old t) (put_at place (tree_at pool.old d) (args_in pool.old args.now)))) }
+    ensures tree { IfOk result (λ u. Denotes pool.new u (apps (tree_at pool.old t) (put_at place (tree_at pool.old d) (args_in pool.old args.now)))) }
 {
     match args {
         Args::End => Ok(t),

@@ -1,14 +1,13 @@
 // What matches become.
 ghost use Rattle.std.specs.Prelude.{◌≡◌, ◌<◌, ℕ, List, length, nat_eq, slice_get, is_some, IfOk};
 ghost use Rattle.mt_layers.specs.Environments.{environment_in, found_in, EnvBelow, FoundBelow};
-ghost use Rattle.mt_pool.specs.Region.{arms_at, branches_of, tree_at, ArmsBelow, Kept, Names};
+ghost use Rattle.mt_pool.specs.Region.{arms_at, branches_of, tree_at, ArmsBelow, Kept, Denotes};
 ghost use Rattle.mt_reduce.specs.Arguments.{args_in, ArgsBelow};
-ghost use Rattle.mt_term.specs.Contraction.{products};
 ghost use Rattle.mt_term.specs.Declarations.{constructor_at};
 ghost use Rattle.mt_term.specs.Spines.{as_con, as_const};
-ghost use Rattle.mt_term.specs.Substitution.{fill, sub};
+ghost use Rattle.mt_term.specs.Substitution.{fill, sub, products};
 ghost use Rattle.mt_term.specs.Trees.{Tree, End, Var};
-ghost use Rattle.mt_term.specs.WeakHead.{branch_at, branch_under, if_full, matched, params_of, taken, takes, unrolled};
+ghost use Rattle.mt_rules.specs.WeakHead.{branch_at, branch_under, if_full, matched, params_of, taken, takes, unrolled};
 
 use crate::arguments::{Args, all_but, apply, count};
 use mt_env::Env;
@@ -61,23 +60,24 @@ fn params(env: &Env, e: usize) -> usize
     }
 }
 
-/// Whether the term on the arguments is a constructor on all its arguments. Of calls one inside the other it makes at most `deep`.
+/// Whether the term on the arguments is a constructor on all its arguments. Recurses at most
+/// `depth_left` levels.
 #[tactic(auto, using(crate::proofs::Held::reduce_rules))]
 pub fn is_full(
     pool: &Pool,
     env: &Env,
     d: TermId,
     args: &Args,
-    deep: usize,
+    depth_left: usize,
 ) -> Result<bool, OutOfMemory>
     requires term { d.at < length pool.now }
     requires env { EnvBelow (length pool.now) env.now }
     ensures { let es = (environment_in pool.now env.now).entries in
         IfOk result (λ b. b ≡ is_some (if_full es (as_con (tree_at pool.now d) (args_in pool.now args.now)))) }
 {
-    let deep = deeper(deep)?;
+    let depth_left = deeper(depth_left)?;
     match pool.node(d) {
-        Node::App(f, a) => is_full(pool, env, *f, &Args::More(*a, &*args), deep),
+        Node::App(f, a) => is_full(pool, env, *f, &Args::More(*a, &*args), depth_left),
         Node::Con(e, k) => Ok(takes(pool, env, *e, *k, count(args)?)),
         Node::Var(_)
         | Node::Sort(_)
@@ -92,17 +92,17 @@ pub fn is_full(
 
 /// A body with the arguments, the oldest first, for its newest variables.
 #[tactic(auto, using(crate::proofs::Held::reduce_rules))]
-fn filled(pool: &mut Pool, alloc: Global, body: TermId, args: &Args) -> Result<TermId, OutOfMemory>
+fn fill_in(pool: &mut Pool, alloc: Global, body: TermId, args: &Args) -> Result<TermId, OutOfMemory>
     requires term { body.at < length pool.old }
     requires others { ArgsBelow (length pool.old) args.now }
     ensures kept { Kept pool.old pool.new }
-    ensures tree { IfOk result (λ u. Names pool.new u (sub (fill (args_in pool.old args.now) Var) (tree_at pool.old body))) }
+    ensures tree { IfOk result (λ u. Denotes pool.new u (sub (fill (args_in pool.old args.now) Var) (tree_at pool.old body))) }
 {
     match args {
         Args::End => Ok(body),
         Args::More(a, rest) => {
             let next = pool.substitute(alloc, body, count(rest)?, *a)?;
-            filled(pool, alloc, next, rest)
+            fill_in(pool, alloc, next, rest)
         }
     }
 }
@@ -129,7 +129,7 @@ fn branch_under(
                 return branch_under(pool, alloc, rest, k - 1, args);
             }
             if names.len() == count(args)? {
-                let u = filled(pool, alloc, *body, args)?;
+                let u = fill_in(pool, alloc, *body, args)?;
                 Ok(Some(u))
             } else {
                 Ok(None)
@@ -138,9 +138,10 @@ fn branch_under(
     }
 }
 
-/// The branch for the constructor that the term on the arguments is. Of calls one inside the other it makes at most `deep`.
+/// The branch for the constructor that the term on the arguments is. Recurses at most `depth_left`
+/// levels.
 #[tactic(auto, using(crate::proofs::Held::reduce_rules))]
-fn taken(
+fn take_branch(
     pool: &mut Pool,
     alloc: Global,
     env: &Env,
@@ -148,7 +149,7 @@ fn taken(
     d: TermId,
     args: &Args,
     bs: &BranchIds,
-    deep: usize,
+    depth_left: usize,
 ) -> Result<Option<TermId>, OutOfMemory>
     requires term { d.at < length pool.old }
     requires others { ArgsBelow (length pool.old) args.now }
@@ -159,12 +160,21 @@ fn taken(
     ensures tree { let es = (environment_in pool.old env.now).entries in
         IfOk result (λ o. found_in pool.new o ≡ taken es e (if_full es (as_con (tree_at pool.old d) (args_in pool.old args.now))) (arms_at pool.old (branches_of bs.now))) }
 {
-    let deep = deeper(deep)?;
+    let depth_left = deeper(depth_left)?;
     match pool.node(d) {
         Node::App(f, a) => {
             let f = *f;
             let a = *a;
-            taken(pool, alloc, env, e, f, &Args::More(a, &*args), bs, deep)
+            take_branch(
+                pool,
+                alloc,
+                env,
+                e,
+                f,
+                &Args::More(a, &*args),
+                bs,
+                depth_left,
+            )
         }
         Node::Con(number, k) => {
             let number = *number;
@@ -186,14 +196,15 @@ fn taken(
     }
 }
 
-/// The body of a corecursive function on arguments, where the term on the arguments is that function on them. Of calls one inside the other it makes at most `deep`.
+/// The body of a corecursive function on arguments, where the term on the arguments is that
+/// function on them. Recurses at most `depth_left` levels.
 #[tactic(auto, using(crate::proofs::Held::reduce_rules))]
-fn unrolled(
+fn unroll(
     pool: &mut Pool,
     env: &Env,
     d: TermId,
     args: &Args,
-    deep: usize,
+    depth_left: usize,
 ) -> Result<Option<TermId>, OutOfMemory>
     requires term { d.at < length pool.old }
     requires others { ArgsBelow (length pool.old) args.now }
@@ -203,12 +214,12 @@ fn unrolled(
     ensures tree { let es = (environment_in pool.old env.now).entries in
         IfOk result (λ o. found_in pool.new o ≡ unrolled es (as_const (tree_at pool.old d) (args_in pool.old args.now))) }
 {
-    let deep = deeper(deep)?;
+    let depth_left = deeper(depth_left)?;
     match pool.node(d) {
         Node::App(f, a) => {
             let f = *f;
             let a = *a;
-            unrolled(pool, env, f, &Args::More(a, &*args), deep)
+            unroll(pool, env, f, &Args::More(a, &*args), depth_left)
         }
         Node::Const(c) => match entry(env, *c) {
             Some(Held::Recursive { co: true, body, .. }) => {
@@ -232,9 +243,10 @@ fn unrolled(
     }
 }
 
-/// What a match becomes, where the weak head of its matched term is `d`. Of calls one inside the other it makes at most `deep`.
+/// What a match becomes, where the weak head of its matched term is `d`. Recurses at most
+/// `depth_left` levels.
 #[tactic(auto, using(crate::proofs::Held::reduce_rules))]
-pub fn matched(
+pub fn contract_match(
     pool: &mut Pool,
     alloc: Global,
     env: &Env,
@@ -242,7 +254,7 @@ pub fn matched(
     r: TermId,
     bs: BranchIds,
     d: TermId,
-    deep: usize,
+    depth_left: usize,
 ) -> Result<Option<TermId>, OutOfMemory>
     requires term { d.at < length pool.old }
     requires function { r.at < length pool.old }
@@ -253,10 +265,10 @@ pub fn matched(
     ensures tree { let es = (environment_in pool.old env.now).entries in
         IfOk result (λ o. found_in pool.new o ≡ matched es e (tree_at pool.old r) (arms_at pool.old (branches_of bs)) (tree_at pool.old d)) }
 {
-    if let Some(t) = taken(pool, alloc, env, e, d, &Args::End, &bs, deep)? {
+    if let Some(t) = take_branch(pool, alloc, env, e, d, &Args::End, &bs, depth_left)? {
         return Ok(Some(t));
     }
-    match unrolled(pool, env, d, &Args::End, deep)? {
+    match unroll(pool, env, d, &Args::End, depth_left)? {
         None => Ok(None),
         Some(c) => {
             let t = pool.put(Node::Match(e, r, c, bs))?;

@@ -3,7 +3,8 @@ ghost use Rattle.std.specs.Prelude.{◌≡◌, ◌<◌, length, IfOk};
 ghost use Rattle.mt_layers.specs.Environments.{found_in, FoundBelow};
 ghost use Rattle.mt_pool.specs.Region.{ids_of, trees_at, AllBelow, Kept};
 ghost use Rattle.mt_store.specs.Held.{store_in, StoreBelow};
-ghost use Rattle.mt_term.specs.WeakHead.{body_of, body_under};
+ghost use Rattle.mt_rules.specs.WeakHead.{body_under};
+ghost use Rattle.mt_term.specs.Stores.{body_of};
 
 use mt_layers::listed_ids;
 use mt_pool::{Pool, TermId, TermIds};

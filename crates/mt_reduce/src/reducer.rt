@@ -1,17 +1,18 @@
 // The layer of weak heads.
 ghost use Rattle.std.specs.Prelude.{◌≡◌, ◌<◌, ◌+◌, length, IfOk, IfErr};
 ghost use Rattle.mt_layers.specs.Environments.{environment_in, EnvBelow};
-ghost use Rattle.mt_layers.specs.Meets.{Meets, IsNoRefusal};
+ghost use Rattle.mt_layers.specs.Stops.{IsNoRefusal};
+ghost use Rattle.mt_rules.specs.Answers.{Answers};
 ghost use Rattle.mt_pool.specs.Region.{tree_at, Kept};
 ghost use Rattle.mt_store.specs.Held.{store_in, StoreBelow};
-ghost use Rattle.mt_term.specs.ReductionLaws.{ReachedFrom};
-ghost use Rattle.mt_term.specs.WeakHead.{normal};
+ghost use Rattle.mt_rules_laws.specs.ReductionLaws.{ReachedFrom};
+ghost use Rattle.mt_rules.specs.WeakHead.{normal};
 
 use crate::normalization::normal;
 use crate::reduction::whd;
 use mt_layers::{Whd, Work};
 use mt_pool::TermId;
-use mt_term::{MOST_DEEP, Stop};
+use mt_term::{MAX_DEPTH, Stop};
 use mt_text::{Ledger, Steps};
 use std::alloc::Global;
 
@@ -41,13 +42,13 @@ impl Reducer {
         ensures env { w.new.env ≡ w.old.env }
         ensures store { w.new.store ≡ w.old.store }
         ensures kept { Kept w.old.pool.now w.new.pool.now }
-        ensures outcome { Meets (tree_at w.new.pool.now) (normal (environment_in w.old.pool.now w.old.env.now) (store_in w.old.pool.now w.old.store.now) (tree_at w.old.pool.now t) w.old.left) w.new.left result }
+        ensures outcome { Answers (tree_at w.new.pool.now) (normal (environment_in w.old.pool.now w.old.env.now) (store_in w.old.pool.now w.old.store.now) (tree_at w.old.pool.now t) w.old.left) w.new.left result }
         ensures result_held { IfOk result (λ u. u.at < length w.new.pool.now) }
         ensures unrefused { IfErr result (λ e. IsNoRefusal e) }
         ensures reached { IfOk result (λ u. ReachedFrom (environment_in w.old.pool.now w.old.env.now) (store_in w.old.pool.now w.old.store.now) (tree_at w.old.pool.now t) (tree_at w.new.pool.now u)) }
         ensures cost { steps.new + w.new.left ≡ steps.old + w.old.left }
     {
-        normal(alloc, w, t, MOST_DEEP, steps)
+        normal(alloc, w, t, MAX_DEPTH, steps)
     }
 }
 
@@ -60,6 +61,6 @@ impl Whd for Reducer {
         t: TermId,
         steps: &mut Steps<L>,
     ) -> Result<TermId, Stop> {
-        whd(alloc, w, t, MOST_DEEP, steps)
+        whd(alloc, w, t, MAX_DEPTH, steps)
     }
 }

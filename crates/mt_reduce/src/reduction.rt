@@ -1,15 +1,16 @@
 // Weak heads, and what each of their steps costs.
 ghost use Rattle.std.specs.Prelude.{◌≡◌, ◌<◌, ◌+◌, length, IfOk, IfErr};
 ghost use Rattle.mt_layers.specs.Environments.{environment_in, found_in, EnvBelow, FoundBelow};
-ghost use Rattle.mt_layers.specs.Meets.{Meets, IsNoRefusal};
+ghost use Rattle.mt_layers.specs.Stops.{IsNoRefusal};
+ghost use Rattle.mt_rules.specs.Answers.{Answers};
 ghost use Rattle.mt_pool.specs.Region.{tree_at, Kept};
 ghost use Rattle.mt_reduce.specs.Arguments.{args_in, ArgsBelow};
 ghost use Rattle.mt_store.specs.Held.{store_in, StoreBelow};
 ghost use Rattle.mt_term.specs.Trees.{Const};
-ghost use Rattle.mt_term.specs.WeakHead.{look, whd};
+ghost use Rattle.mt_rules.specs.WeakHead.{look, whd};
 
 use crate::arguments::{Args, apply, apply_with, argument, beta, on_args};
-use crate::branches::{is_full, matched};
+use crate::branches::{contract_match, is_full};
 use crate::metavariables::body_under;
 use mt_layers::{Work, copy_branches, copy_ids, entry};
 use mt_pool::{Held, Node, TermId};
@@ -17,14 +18,14 @@ use mt_term::{Stop, deeper};
 use mt_text::{Ledger, Steps};
 use std::alloc::Global;
 
-/// The weak head. Of calls one inside the other it makes at most `deep`.
+/// The weak head. Recurses at most `depth_left` levels.
 #[cycle(whd)]
-#[tactic(auto, using(crate::proofs::Held::reduce_rules, mt_term::proofs::WeakHeadRules::whd_rules))]
+#[tactic(auto, using(crate::proofs::Held::reduce_rules, mt_rules_laws::proofs::WeakHeadRules::whd_rules))]
 pub fn whd<L: Ledger>(
     alloc: Global,
     w: &mut Work<'_>,
     t: TermId,
-    deep: usize,
+    depth_left: usize,
     steps: &mut Steps<L>,
 ) -> Result<TermId, Stop>
     requires held { t.at < length w.old.pool.now }
@@ -34,29 +35,30 @@ pub fn whd<L: Ledger>(
     ensures env { w.new.env ≡ w.old.env }
     ensures store { w.new.store ≡ w.old.store }
     ensures kept { Kept w.old.pool.now w.new.pool.now }
-    ensures outcome { Meets (tree_at w.new.pool.now) (whd (environment_in w.old.pool.now w.old.env.now) (store_in w.old.pool.now w.old.store.now) (tree_at w.old.pool.now t) w.old.left) w.new.left result }
+    ensures outcome { Answers (tree_at w.new.pool.now) (whd (environment_in w.old.pool.now w.old.env.now) (store_in w.old.pool.now w.old.store.now) (tree_at w.old.pool.now t) w.old.left) w.new.left result }
     ensures result_held { IfOk result (λ u. u.at < length w.new.pool.now) }
     ensures unrefused { IfErr result (λ e. IsNoRefusal e) }
     ensures cost { steps.new + w.new.left ≡ steps.old + w.old.left }
 {
-    let deep = deeper(deep)?;
+    let depth_left = deeper(depth_left)?;
     let mut head = t;
-    while let Some(next) = look(alloc, w, head, &Args::End, deep, steps)? {
+    while let Some(next) = look(alloc, w, head, &Args::End, depth_left, steps)? {
         w.charge(steps)?;
         head = next;
     }
     Ok(head)
 }
 
-/// What the term on the arguments becomes by a step, where there is one; the step's own charge is not paid. Of calls one inside the other it makes at most `deep`.
+/// What the term on the arguments becomes by a step, where there is one; the step's own charge is
+/// not paid. Recurses at most `depth_left` levels.
 #[cycle(whd)]
-#[tactic(auto, using(crate::proofs::Held::reduce_rules, mt_term::proofs::WeakHeadRules::look_rules))]
+#[tactic(auto, using(crate::proofs::Held::reduce_rules, mt_rules_laws::proofs::WeakHeadRules::look_rules))]
 pub fn look<L: Ledger>(
     alloc: Global,
     w: &mut Work<'_>,
     t: TermId,
     args: &Args<'_>,
-    deep: usize,
+    depth_left: usize,
     steps: &mut Steps<L>,
 ) -> Result<Option<TermId>, Stop>
     requires held { t.at < length w.old.pool.now }
@@ -67,17 +69,17 @@ pub fn look<L: Ledger>(
     ensures env { w.new.env ≡ w.old.env }
     ensures store { w.new.store ≡ w.old.store }
     ensures kept { Kept w.old.pool.now w.new.pool.now }
-    ensures outcome { Meets (found_in w.new.pool.now) (look (environment_in w.old.pool.now w.old.env.now) (store_in w.old.pool.now w.old.store.now) (tree_at w.old.pool.now t) (args_in w.old.pool.now args.now) w.old.left) w.new.left result }
+    ensures outcome { Answers (found_in w.new.pool.now) (look (environment_in w.old.pool.now w.old.env.now) (store_in w.old.pool.now w.old.store.now) (tree_at w.old.pool.now t) (args_in w.old.pool.now args.now) w.old.left) w.new.left result }
     ensures result_held { IfOk result (λ o. FoundBelow (length w.new.pool.now) o) }
     ensures unrefused { IfErr result (λ e. IsNoRefusal e) }
     ensures cost { steps.new + w.new.left ≡ steps.old + w.old.left }
 {
-    let deep = deeper(deep)?;
+    let depth_left = deeper(depth_left)?;
     match w.pool.node(t) {
         Node::App(f, a) => {
             let f = *f;
             let a = *a;
-            look(alloc, w, f, &Args::More(a, &*args), deep, steps)
+            look(alloc, w, f, &Args::More(a, &*args), depth_left, steps)
         }
         Node::Lam(_, _, b) => {
             let b = *b;
@@ -86,21 +88,21 @@ pub fn look<L: Ledger>(
         }
         Node::Const(c) => {
             let c = *c;
-            unfold(alloc, w, c, args, deep, steps)
+            unfold(alloc, w, c, args, depth_left, steps)
         }
         Node::Match(e, r, c, bs) => {
             let e = *e;
             let r = *r;
             let c = *c;
-            let bs = copy_branches(alloc, bs, deep)?;
-            let d = whd(alloc, w, c, deep, steps)?;
-            let found = matched(w.pool, alloc, w.env, e, r, bs, d, deep)?;
+            let bs = copy_branches(alloc, bs, depth_left)?;
+            let d = whd(alloc, w, c, depth_left, steps)?;
+            let found = contract_match(w.pool, alloc, w.env, e, r, bs, d, depth_left)?;
             let found = on_args(w.pool, found, args)?;
             Ok(found)
         }
         Node::Meta(n, s) => {
             let n = *n;
-            let s = copy_ids(alloc, s, deep)?;
+            let s = copy_ids(alloc, s, depth_left)?;
             let found = body_under(w.pool, alloc, w.store, n, &s)?;
             let found = on_args(w.pool, found, args)?;
             Ok(found)
@@ -109,15 +111,16 @@ pub fn look<L: Ledger>(
     }
 }
 
-/// What a constant on the arguments becomes by a step, where there is one. Of calls one inside the other it makes at most `deep`.
+/// What a constant on the arguments becomes by a step, where there is one. Recurses at most
+/// `depth_left` levels.
 #[cycle(whd)]
-#[tactic(auto, using(crate::proofs::Held::reduce_rules, mt_term::proofs::WeakHeadRules::look_rules))]
+#[tactic(auto, using(crate::proofs::Held::reduce_rules, mt_rules_laws::proofs::WeakHeadRules::look_rules))]
 fn unfold<L: Ledger>(
     alloc: Global,
     w: &mut Work<'_>,
     c: usize,
     args: &Args<'_>,
-    deep: usize,
+    depth_left: usize,
     steps: &mut Steps<L>,
 ) -> Result<Option<TermId>, Stop>
     requires others { ArgsBelow (length w.old.pool.now) args.now }
@@ -127,12 +130,12 @@ fn unfold<L: Ledger>(
     ensures env { w.new.env ≡ w.old.env }
     ensures store { w.new.store ≡ w.old.store }
     ensures kept { Kept w.old.pool.now w.new.pool.now }
-    ensures outcome { Meets (found_in w.new.pool.now) (look (environment_in w.old.pool.now w.old.env.now) (store_in w.old.pool.now w.old.store.now) (Const c) (args_in w.old.pool.now args.now) w.old.left) w.new.left result }
+    ensures outcome { Answers (found_in w.new.pool.now) (look (environment_in w.old.pool.now w.old.env.now) (store_in w.old.pool.now w.old.store.now) (Const c) (args_in w.old.pool.now args.now) w.old.left) w.new.left result }
     ensures result_held { IfOk result (λ o. FoundBelow (length w.new.pool.now) o) }
     ensures unrefused { IfErr result (λ e. IsNoRefusal e) }
     ensures cost { steps.new + w.new.left ≡ steps.old + w.old.left }
 {
-    let deep = deeper(deep)?;
+    let depth_left = deeper(depth_left)?;
     match entry(w.env, c) {
         Some(Held::Definition { body, .. }) => {
             let u = apply(w.pool, *body, args)?;
@@ -151,8 +154,8 @@ fn unfold<L: Ledger>(
             let Some(a) = argument(args, place) else {
                 return Ok(None);
             };
-            let d = whd(alloc, w, a, deep, steps)?;
-            if !is_full(w.pool, w.env, d, &Args::End, deep)? {
+            let d = whd(alloc, w, a, depth_left, steps)?;
+            if !is_full(w.pool, w.env, d, &Args::End, depth_left)? {
                 return Ok(None);
             }
             let u = apply_with(w.pool, body, args, place, d)?;

@@ -5,7 +5,7 @@ use Rattle.std.proofs.Math.Seq.{drop-nil}
 use Rattle.std.specs.Str.{bytes_eq}
 use Rattle.mt_term.specs.Trees.{Tree, Bytes}
 use Rattle.mt_term.specs.Declarations.{Constructor, Declaration}
-use Rattle.mt_term.specs.Contraction.{products}
+use Rattle.mt_term.specs.Substitution.{products}
 use Rattle.mt_term.specs.Naming.{Naming, find, named}
 use Rattle.mt_term_parser.specs.Written.{Written, Cases, NoCase, Case}
 use Rattle.mt_resolver.specs.Built.{has_case}

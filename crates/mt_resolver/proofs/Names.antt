@@ -5,7 +5,7 @@ use Rattle.mt_term.specs.Declarations.{Environment}
 use Rattle.mt_term.specs.Naming.{Naming, find, named}
 use Rattle.mt_resolver.specs.Resolution.{Found, Faults, first_place, variable_or, meant, or_unbound}
 use Rattle.mt_resolver.specs.TableOf.{AreNamesOf}
-use Rattle.mt_term.specs.Declarations.{Unbound}
+use Rattle.mt_term.specs.Reasons.{Unbound}
 
 module _ (E : Environment) (T : Naming) (names : AreNamesOf T (E.entries)) (Γ : List Bytes) (x : Bytes) (at : ℕ) where
   pub meant-variable : (i : ℕ) → first_place Γ x ≡ Some i → or_unbound x at (meant E Γ x) ≡ Found (Var i)

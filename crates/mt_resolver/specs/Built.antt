@@ -1,12 +1,15 @@
 -- The forms of raw terms that can be taken by their names.
 use Rattle.std.specs.Prelude.{Bool, true, false, ◌&&◌}
-use Rattle.mt_term_parser.specs.Written.{Written, Form, Arguments, Cases, Term, Name, Sort, Lam, Prod, App, Match, Given, NoArgument, Argument, NoCase, Case}
+use Rattle.mt_term_parser.specs.Written.{Written, Form, Arguments, Cases, Term, Name, Sort, Lam}
+use Rattle.mt_term_parser.specs.Written.{Prod, App, Match, Given, NoArgument, Argument, NoCase}
+use Rattle.mt_term_parser.specs.Written.{Case}
 
 abbrev pub has_case : Cases → Bool
 has_case NoCase = false
 has_case (Case x xs b arms) = true
 
--- Names, sorts, products, abstractions with a type and applications; and, where matches are taken too, matches with a return term and at least one arm.
+-- Names, sorts, products, abstractions with a type and applications; and, where matches are taken
+-- too, matches with a return term and at least one arm.
 abbrev mutual
   pub is_built : Bool → Written → Bool
   is_built matches (Term at f) = is_built_form matches f
@@ -17,7 +20,9 @@ abbrev mutual
   is_built_form matches (Lam x (Given A) b) = is_built matches A && is_built matches b
   is_built_form matches (Prod x A B) = is_built matches A && is_built matches B
   is_built_form matches (App f args) = is_built matches f && are_built matches args
-  is_built_form matches (Match c (Given R) arms) = matches && has_case arms && is_built matches c && is_built matches R && are_cases_built matches arms
+  is_built_form matches (Match c (Given R) arms) =
+      matches && has_case arms && is_built matches c && is_built matches R
+      && are_cases_built matches arms
   is_built_form matches _ = false
 
   pub are_built : Bool → Arguments → Bool

@@ -1,15 +1,19 @@
 -- Raw terms taken by their names: the terms that they stand for, or the first fault from the left.
-use Rattle.std.specs.Prelude.{ℕ, suc, ◌+◌, max, Bool, true, false, ◌&&◌, nat_eq, if◌then◌else◌, List, [], ◌∷◌, length, Option, Some, None, slice_get}
+use Rattle.std.specs.Prelude.{ℕ, suc, ◌+◌, max, Bool, true, false, ◌&&◌, nat_eq, if◌then◌else◌}
+use Rattle.std.specs.Prelude.{List, [], ◌∷◌, length, Option, Some, None, slice_get}
 use Rattle.std.specs.Str.{bytes_eq}
-use Rattle.mt_term.specs.Trees.{Tree, Arms, Bytes, Var, Sort, Prod, Lam, App, Con, Match, NoArm, Arm}
-use Rattle.mt_term.specs.Declarations.{Constructor, Declaration, Inductive, Environment, Reason, Unbound, BadElimination, NotHere}
+use Rattle.mt_term.specs.Trees.{Tree, Arms, Bytes, Var, Sort, Prod, Lam, App, Con, Match, NoArm}
+use Rattle.mt_term.specs.Trees.{Arm}
+use Rattle.mt_term.specs.Declarations.{Constructor, Declaration, Inductive, Environment}
+use Rattle.mt_term.specs.Reasons.{Reason, Unbound, BadElimination, NotHere}
 use Rattle.mt_term.specs.Naming.{named}
-use Rattle.mt_term.specs.Contraction.{products}
-use Rattle.mt_term.specs.Universes.{normal_form}
+use Rattle.mt_term.specs.Substitution.{products}
+use Rattle.mt_term.specs.UniverseForms.{normal_form}
 use Rattle.mt_term.specs.declared.universes.UnivExpr.{UnivExpr}
 use Rattle.mt_term.specs.declared.universes.Sort.TheVariants as sort
 use Rattle.mt_term_parser.specs.Written as raw
-use Rattle.mt_term_parser.specs.Written.{Written, Form, Arguments, Cases, Term, Given, NoArgument, Argument, NoCase, Case}
+use Rattle.mt_term_parser.specs.Written.{Written, Form, Arguments, Cases, Term, Given, NoArgument}
+use Rattle.mt_term_parser.specs.Written.{Argument, NoCase, Case}
 use Rattle.mt_term_parser.specs.declared.raw.RawSort.{RawSort}
 use Rattle.mt_term_parser.specs.declared.raw.RawSort.TheVariants as raw_sort
 use Rattle.mt_term_parser.specs.declared.raw.Part.{Part}
@@ -59,7 +63,8 @@ with_name n k u = record { base = u.base; atoms = record { name = n; offset = k 
 -- the maximum of parts: each universe name by its number
 abbrev pub resolved_parts : List Bytes → ℕ → List Part → Resolution UnivExpr
 resolved_parts names at [] = Found (record { base = 0; atoms = [] })
-resolved_parts names at (part.Number k ∷ parts) = then_found (resolved_parts names at parts) (λ u. Found (with_number k u))
+resolved_parts names at (part.Number k ∷ parts) =
+    then_found (resolved_parts names at parts) (λ u. Found (with_number k u))
 resolved_parts names at (part.Name x k ∷ parts) =
     then_found (or_unbound x at (first_place names x)) (λ n.
     then_found (resolved_parts names at parts) (λ u. Found (with_name n k u)))
@@ -67,7 +72,8 @@ resolved_parts names at (part.Name x k ∷ parts) =
 -- a sort, in normal form
 abbrev pub resolved_sort : List Bytes → ℕ → RawSort → Resolution Tree
 resolved_sort names at raw_sort.Prop = Found (Sort sort.Prop)
-resolved_sort names at (raw_sort.Typ parts) = then_found (resolved_parts names at parts) (λ u. Found (Sort (sort.Typ (normal_form u))))
+resolved_sort names at (raw_sort.Typ parts) =
+    then_found (resolved_parts names at parts) (λ u. Found (Sort (sort.Typ (normal_form u))))
 
 -- ---- arms
 
@@ -80,10 +86,12 @@ abbrev pub type_of_first : List Declaration → Cases → Option ℕ
 type_of_first es NoCase = None
 type_of_first es (Case x xs b arms) = type_of_constructor (named es x)
 
--- the arms name these constructors in order, each with as many names as it has arguments past p parameters
+-- the arms name these constructors in order, each with as many names as it has arguments past p
+-- parameters
 abbrev pub name_all : ℕ → List Constructor → Cases → Bool
 name_all p [] NoCase = true
-name_all p (c ∷ cs) (Case x xs b arms) = bytes_eq c.name x && nat_eq (length xs + p) (products c.ty) && name_all p cs arms
+name_all p (c ∷ cs) (Case x xs b arms) =
+    bytes_eq c.name x && nat_eq (length xs + p) (products c.ty) && name_all p cs arms
 name_all p _ _ = false
 
 abbrev pub name_those_of : Option Declaration → Cases → Bool
@@ -109,7 +117,8 @@ with_binders (x ∷ xs) Γ = with_binders xs (x ∷ Γ)
 
 -- ---- terms
 
--- A raw term under hypotheses of these names, innermost first. A form that is not taken by names is not here.
+-- A raw term under hypotheses of these names, innermost first. A form that is not taken by names is
+-- not here.
 abbrev mutual
   pub resolved : Environment → List Bytes → Written → Resolution Tree
   resolved E Γ (Term at f) = resolved_form E Γ at f
@@ -132,10 +141,12 @@ abbrev mutual
   -- a term on further arguments
   pub resolved_on : Environment → List Bytes → Tree → Arguments → Resolution Tree
   resolved_on E Γ t NoArgument = Found t
-  resolved_on E Γ t (Argument a args) = then_found (resolved E Γ a) (λ u. resolved_on E Γ (App t u) args)
+  resolved_on E Γ t (Argument a args) =
+      then_found (resolved E Γ a) (λ u. resolved_on E Γ (App t u) args)
 
   -- the bodies of arms, each under its names
   pub resolved_arms : Environment → List Bytes → Cases → Resolution Arms
   resolved_arms E Γ NoCase = Found NoArm
   resolved_arms E Γ (Case x xs b arms) =
-      then_found (resolved E (with_binders xs Γ) b) (λ t. then_found (resolved_arms E Γ arms) (λ bs. Found (Arm xs t bs)))
+      then_found (resolved E (with_binders xs Γ) b)
+      (λ t. then_found (resolved_arms E Γ arms) (λ bs. Found (Arm xs t bs)))

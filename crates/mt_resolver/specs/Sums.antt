@@ -10,4 +10,5 @@ use Rattle.mt_resolver.specs.Resolution.{Resolution, Found, then_found, first_pl
 abbrev pub part_after : List Bytes → ℕ → Part → UnivExpr → Resolution UnivExpr
 part_after names at (part.Number k) u = Found (record { base = max u.base k; atoms = u.atoms })
 part_after names at (part.Name x k) u =
-    then_found (or_unbound x at (first_place names x)) (λ n. Found (record { base = u.base; atoms = u.atoms ++ record { name = n; offset = k } ∷ [] }))
+    then_found (or_unbound x at (first_place names x))
+    (λ n. Found (record { base = u.base; atoms = u.atoms ++ record { name = n; offset = k } ∷ [] }))

@@ -5,7 +5,7 @@ ghost use Rattle.mt_resolver.specs.Fitting.{fits};
 ghost use Rattle.mt_resolver.specs.Resolution.{name_all, name_those_of, type_of_arms, type_of_constructor, type_of_first};
 ghost use Rattle.mt_resolver.specs.TableOf.{AreNamesOf, tree_meant};
 ghost use Rattle.mt_term.specs.ConstructorOf.{constructor_of};
-ghost use Rattle.mt_term.specs.Contraction.{products};
+ghost use Rattle.mt_term.specs.Substitution.{products};
 ghost use Rattle.mt_term.specs.EntryOf.{seen_declaration};
 ghost use Rattle.mt_term.specs.TreeOf.{tree_of};
 ghost use Rattle.mt_term_parser.specs.WrittenOf.{cases_of};
@@ -13,7 +13,7 @@ ghost use Rattle.mt_term_parser.specs.WrittenOf.{cases_of};
 use crate::meanings::Meaning;
 use crate::table::Table;
 use mt_term::{Cons, Constructor, Entry, Name, Names, OutOfMemory, PlainEnv, Term, deeper};
-use mt_term_parser::Arms;
+use mt_term_parser::RawArms;
 
 /// The number of the inductive type whose constructors the arms name, in order and all of them,
 /// each with as many names as it has arguments past the parameters.
@@ -21,15 +21,15 @@ use mt_term_parser::Arms;
 pub fn type_of_arms(
     env: &PlainEnv,
     names: &Table,
-    arms: &Arms,
-    deep: usize,
+    arms: &RawArms,
+    depth_left: usize,
 ) -> Result<Option<usize>, OutOfMemory>
     requires { AreNamesOf names.now env.now.entries }
     ensures { IfOk result (λ o. o ≡ type_of_arms env.now.entries (cases_of arms.now)) }
 {
     match type_of_first(env, names, arms) {
         Some(e) => {
-            if name_those_of(env.entries.get(e), arms, deep)? {
+            if name_those_of(env.entries.get(e), arms, depth_left)? {
                 Ok(Some(e))
             } else {
                 Ok(None)
@@ -41,14 +41,14 @@ pub fn type_of_arms(
 
 // The inductive type of the constructor that the first arm names.
 #[tactic(auto, using(crate::proofs::ArmNames::arm_rules))]
-fn type_of_first(env: &PlainEnv, names: &Table, arms: &Arms) -> Option<usize>
+fn type_of_first(env: &PlainEnv, names: &Table, arms: &RawArms) -> Option<usize>
     requires { AreNamesOf names.now env.now.entries }
     ensures { result ≡ type_of_first env.now.entries (cases_of arms.now) }
 {
     let _env = env;
     match arms {
-        Arms::End => None,
-        Arms::Item(arm, _) => {
+        RawArms::End => None,
+        RawArms::Item(arm, _) => {
             let arm = arm;
             match names.find(arm.name.as_bytes()) {
                 Some(meaning) => type_of_constructor(meaning),
@@ -67,11 +67,15 @@ fn type_of_constructor(meaning: Meaning) -> Option<usize>
     }
 }
 
-fn name_those_of(entry: Option<&Entry>, arms: &Arms, deep: usize) -> Result<bool, OutOfMemory>
+fn name_those_of(
+    entry: Option<&Entry>,
+    arms: &RawArms,
+    depth_left: usize,
+) -> Result<bool, OutOfMemory>
     ensures { IfOk result (λ b. b ≡ name_those_of (seen_declaration entry.entry) (cases_of arms.now)) }
 {
     match entry {
-        Some(Entry::Inductive { params, cons, .. }) => name_all(*params, cons, 0, arms, deep),
+        Some(Entry::Inductive { params, cons, .. }) => name_all(*params, cons, 0, arms, depth_left),
         _ => Ok(false),
     }
 }
@@ -82,21 +86,21 @@ fn name_all(
     params: usize,
     cons: &Cons,
     from: usize,
-    arms: &Arms,
-    deep: usize,
+    arms: &RawArms,
+    depth_left: usize,
 ) -> Result<bool, OutOfMemory>
     ensures { IfOk result (λ b. b ≡ name_all params (drop from cons.now) (cases_of arms.now)) }
 {
-    let deep = deeper(deep)?;
+    let depth_left = deeper(depth_left)?;
     let next = from.checked_add(1).ok_or(OutOfMemory)?;
     match cons.get(from) {
         None => Ok(is_end(arms)),
         Some(constructor) => match arms {
-            Arms::End => Ok(false),
-            Arms::Item(arm, rest) => {
+            RawArms::End => Ok(false),
+            RawArms::Item(arm, rest) => {
                 let arm = arm;
-                if fits(constructor, &arm.name, &arm.binders, params, deep)? {
-                    name_all(params, cons, next, rest, deep)
+                if fits(constructor, &arm.name, &arm.binders, params, depth_left)? {
+                    name_all(params, cons, next, rest, depth_left)
                 } else {
                     Ok(false)
                 }
@@ -105,12 +109,12 @@ fn name_all(
     }
 }
 
-fn is_end(arms: &Arms) -> bool
+fn is_end(arms: &RawArms) -> bool
     ensures { result ≡ not (has_case (cases_of arms.now)) }
 {
     match arms {
-        Arms::End => true,
-        Arms::Item(..) => false,
+        RawArms::End => true,
+        RawArms::Item(..) => false,
     }
 }
 
@@ -121,7 +125,7 @@ fn fits(
     name: &Name,
     binders: &Names,
     params: usize,
-    deep: usize,
+    depth_left: usize,
 ) -> Result<bool, OutOfMemory>
     ensures { IfOk result (λ b. b ≡ fits params (constructor_of constructor.now) name.now binders.now) }
 {
@@ -129,20 +133,20 @@ fn fits(
     if constructor.name.as_bytes() != name.as_bytes() {
         return Ok(false);
     }
-    has_products(&constructor.ty, bound, deep)
+    has_products(&constructor.ty, bound, depth_left)
 }
 
 // Whether a type has so many products.
-fn has_products(t: &Term, count: usize, deep: usize) -> Result<bool, OutOfMemory>
+fn has_products(t: &Term, count: usize, depth_left: usize) -> Result<bool, OutOfMemory>
     ensures { IfOk result (λ b. b ≡ nat_eq count (products (tree_of t.now))) }
 {
-    let deep = deeper(deep)?;
+    let depth_left = deeper(depth_left)?;
     match t {
         Term::Prod(_, _, rest) => {
             if count == 0 {
                 return Ok(false);
             }
-            has_products(rest, count - 1, deep)
+            has_products(rest, count - 1, depth_left)
         }
         _ => Ok(count == 0),
     }

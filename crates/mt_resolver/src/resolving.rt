@@ -1,4 +1,5 @@
-// Raw terms taken by their names. `deep` is how deep the term may be; past it memory is wanting.
+// Raw terms taken by their names. `depth_left` is how deep the term may be; past it memory is
+// wanting.
 ghost use Rattle.std.specs.Prelude.{◌≡◌, ◌+◌, ◌≤◌, max, IfOk};
 ghost use Rattle.mt_resolver.specs.Counts.{count_of};
 ghost use Rattle.mt_resolver.specs.Resolution.{meant, or_unbound, resolved, resolved_arms, resolved_on};
@@ -13,12 +14,12 @@ ghost use Rattle.mt_term_parser.specs.WrittenOf.{arguments_of, cases_of, written
 
 use crate::arms::type_of_arms;
 use crate::scopes::{Scope, place_in};
-use crate::sorts::{refused, sort_of};
+use crate::sorts::{refusal_at, sort_of};
 use crate::table::Table;
 use mt_term::{
-    Branch, Branches, Halt, MOST_DEEP, Name, Names, OutOfMemory, PlainEnv, Refusal, Term, deeper,
+    Branch, Branches, Halt, MAX_DEPTH, Name, Names, OutOfMemory, PlainEnv, Refusal, Term, deeper,
 };
-use mt_term_parser::{Arms, Raw, RawShape, Raws};
+use mt_term_parser::{Raw, RawArms, RawShape, Raws};
 use std::alloc::{AllocError, Global};
 
 /// The term that a raw term stands for: each name is the newest hypothesis of that name, else the
@@ -42,7 +43,7 @@ pub fn resolve(
     ensures found { Resolves tree_of (resolved (environment_of env.now) (names_of scope.now) (written_of raw.now)) result }
     ensures depth { IfOk result (λ t. depth (tree_of t) ≤ 2000) }
 {
-    resolve_within(alloc, env, names, scope, raw, MOST_DEEP)
+    resolve_within(alloc, env, names, scope, raw, MAX_DEPTH)
 }
 
 #[cycle(resolve)]
@@ -52,47 +53,50 @@ fn resolve_within(
     names: &Table,
     scope: &Scope<'_>,
     raw: &Raw,
-    deep: usize,
+    depth_left: usize,
 ) -> Result<Term, Halt>
     requires { AreNamesOf names.now env.now.entries }
     ensures found { Resolves tree_of (resolved (environment_of env.now) (names_of scope.now) (written_of raw.now)) result }
-    ensures depth { IfOk result (λ t. depth (tree_of t) ≤ deep) }
+    ensures depth { IfOk result (λ t. depth (tree_of t) ≤ depth_left) }
 {
-    let deep = deeper(deep)?;
+    let depth_left = deeper(depth_left)?;
     match &raw.shape {
         RawShape::Name(name) => named_term(env, names, scope, name, raw.start),
         RawShape::Sort(sort) => Ok(Term::Sort(sort_of(alloc, &env.names, sort, raw.start)?)),
         RawShape::Lam(name, Some(ty), body) => {
-            let ty = resolve_within(alloc, env, names, scope, ty, deep)?;
+            let ty = resolve_within(alloc, env, names, scope, ty, depth_left)?;
             let inner = Scope::More(&*name, &*scope);
-            let body = resolve_within(alloc, env, names, &inner, body, deep)?;
+            let body = resolve_within(alloc, env, names, &inner, body, depth_left)?;
             Ok(abstraction(alloc, name, ty, body)?)
         }
         RawShape::Prod(name, ty, body) => {
-            let ty = resolve_within(alloc, env, names, scope, ty, deep)?;
+            let ty = resolve_within(alloc, env, names, scope, ty, depth_left)?;
             let inner = Scope::More(&*name, &*scope);
-            let body = resolve_within(alloc, env, names, &inner, body, deep)?;
+            let body = resolve_within(alloc, env, names, &inner, body, depth_left)?;
             Ok(product(alloc, name, ty, body)?)
         }
         RawShape::App(head, args) => {
-            let left = left_beside(args, deep)?;
+            let left = left_beside(args, depth_left)?;
             let head = resolve_within(alloc, env, names, scope, head, left)?;
             resolve_on(alloc, env, names, scope, args, head, left)
         }
         RawShape::Match(matched, Some(ty), arms) => {
-            let matched = boxed(
+            let matched = in_box(
                 alloc,
-                resolve_within(alloc, env, names, scope, matched, deep)?,
+                resolve_within(alloc, env, names, scope, matched, depth_left)?,
             )?;
-            let number = match type_of_arms(env, names, arms, deep)? {
+            let number = match type_of_arms(env, names, arms, depth_left)? {
                 Some(number) => number,
-                None => return Err(refused(Refusal::BadElimination, raw.start)),
+                None => return Err(refusal_at(Refusal::BadElimination, raw.start)),
             };
-            let ty = boxed(alloc, resolve_within(alloc, env, names, scope, ty, deep)?)?;
-            let branches = resolve_arms(alloc, env, names, scope, arms, deep)?;
+            let ty = in_box(
+                alloc,
+                resolve_within(alloc, env, names, scope, ty, depth_left)?,
+            )?;
+            let branches = resolve_arms(alloc, env, names, scope, arms, depth_left)?;
             Ok(Term::Match(number, ty, matched, branches))
         }
-        _ => Err(refused(Refusal::NotHere, raw.start)),
+        _ => Err(refusal_at(Refusal::NotHere, raw.start)),
     }
 }
 
@@ -127,21 +131,21 @@ fn resolve_arms(
     env: &PlainEnv,
     names: &Table,
     scope: &Scope<'_>,
-    arms: &Arms,
-    deep: usize,
+    arms: &RawArms,
+    depth_left: usize,
 ) -> Result<Branches, Halt>
     requires { AreNamesOf names.now env.now.entries }
     ensures found { Resolves arms_of (resolved_arms (environment_of env.now) (names_of scope.now) (cases_of arms.now)) result }
-    ensures depth { IfOk result (λ bs. depth_arms (arms_of bs) ≤ deep) }
+    ensures depth { IfOk result (λ bs. depth_arms (arms_of bs) ≤ depth_left) }
 {
-    let deep = deeper(deep)?;
+    let depth_left = deeper(depth_left)?;
     match arms {
-        Arms::End => Ok(Branches::End),
-        Arms::Item(arm, rest) => {
+        RawArms::End => Ok(Branches::End),
+        RawArms::Item(arm, rest) => {
             let arm = arm;
             let inner = Scope::Binders(&arm.binders, &*scope);
-            let body = resolve_within(alloc, env, names, &inner, &arm.body, deep)?;
-            let branches = resolve_arms(alloc, env, names, scope, rest, deep)?;
+            let body = resolve_within(alloc, env, names, &inner, &arm.body, depth_left)?;
+            let branches = resolve_arms(alloc, env, names, scope, rest, depth_left)?;
             Ok(branch(alloc, &arm.binders, body, branches)?)
         }
     }
@@ -165,17 +169,17 @@ fn named_term(
     }
     match names.find(name.as_bytes()) {
         Some(meaning) => Ok(meaning.term()),
-        None => Err(refused(Refusal::Unbound(name.clone()?), at)),
+        None => Err(refusal_at(Refusal::Unbound(name.clone()?), at)),
     }
 }
 
 // The depth that is left for the head and the arguments of an application.
-fn left_beside(args: &Raws, deep: usize) -> Result<usize, OutOfMemory>
-    ensures { IfOk result (λ left. left + count_of (arguments_of args.now) ≡ deep) }
+fn left_beside(args: &Raws, depth_left: usize) -> Result<usize, OutOfMemory>
+    ensures { IfOk result (λ left. left + count_of (arguments_of args.now) ≡ depth_left) }
 {
     match args {
-        Raws::End => Ok(deep),
-        Raws::Item(_, rest) => left_beside(rest, deeper(deep)?),
+        Raws::End => Ok(depth_left),
+        Raws::Item(_, rest) => left_beside(rest, deeper(depth_left)?),
     }
 }
 
@@ -205,7 +209,7 @@ fn application(alloc: Global, head: Term, arg: Term) -> Result<Term, OutOfMemory
     Ok(Term::App(head, arg))
 }
 
-fn boxed(alloc: Global, t: Term) -> Result<Box<Term>, OutOfMemory>
+fn in_box(alloc: Global, t: Term) -> Result<Box<Term>, OutOfMemory>
     ensures { IfOk result (λ b. tree_of b.value ≡ tree_of t) }
 {
     Ok(Box::new(alloc, t)?)

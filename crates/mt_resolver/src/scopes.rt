@@ -4,7 +4,7 @@ ghost use Rattle.mt_resolver.specs.Resolution.{first_place, one_further, with_bi
 ghost use Rattle.mt_resolver.specs.ScopeOf.{names_of, places_on};
 ghost use Rattle.std.specs.Str.{bytes_eq};
 
-use mt_term::{MOST_DEEP, Name, Names, OutOfMemory, deeper};
+use mt_term::{MAX_DEPTH, Name, Names, OutOfMemory, deeper};
 
 /// Names of hypotheses, the innermost first; of several binders the last one is the innermost.
 #[derive(Clone, Copy)]
@@ -73,7 +73,7 @@ fn place_under(
 pub fn place_in(scope: &Scope<'_>, name: &[u8]) -> Result<Option<usize>, OutOfMemory>
     ensures { IfOk result (λ o. o ≡ first_place (names_of scope.now) name.now) }
 {
-    place_within(scope, name, 0, MOST_DEEP)
+    place_within(scope, name, 0, MAX_DEPTH)
 }
 
 // The same, where so many hypotheses are nearer.
@@ -82,22 +82,22 @@ fn place_within(
     scope: &Scope<'_>,
     name: &[u8],
     nearer: usize,
-    deep: usize,
+    depth_left: usize,
 ) -> Result<Option<usize>, OutOfMemory>
     ensures { IfOk result (λ o. o ≡ places_on nearer (first_place (names_of scope.now) name.now)) }
 {
-    let deep = deeper(deep)?;
+    let depth_left = deeper(depth_left)?;
     match scope {
         Scope::Empty => Ok(None),
         Scope::More(other, rest) => {
             if is_name(other, name) {
                 return Ok(Some(nearer));
             }
-            place_within(rest, name, further(nearer, 1)?, deep)
+            place_within(rest, name, further(nearer, 1)?, depth_left)
         }
         Scope::Binders(names, rest) => match last_place(names, name)? {
             Some(i) => Ok(Some(further(nearer, i)?)),
-            None => place_within(rest, name, further(nearer, names.len())?, deep),
+            None => place_within(rest, name, further(nearer, names.len())?, depth_left),
         },
     }
 }

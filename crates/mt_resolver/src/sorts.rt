@@ -12,7 +12,7 @@ use mt_term_parser::{Part, Parts, RawSort};
 use std::alloc::{AllocError, Global};
 
 /// A refusal at a place.
-pub fn refused(refusal: Refusal, at: usize) -> Halt
+pub fn refusal_at(refusal: Refusal, at: usize) -> Halt
     ensures { result ≡ halt.Refused (record { refusal = refusal; at = at }) }
 {
     Halt::Refused(Fault { refusal, at })
@@ -60,7 +60,7 @@ fn with_part(names: &Names, part: &Part, at: usize, sum: UnivExpr) -> Result<Uni
                 name,
                 offset: *offset,
             })?,
-            None => return Err(refused(Refusal::Unbound(x.clone()?), at)),
+            None => return Err(refusal_at(Refusal::Unbound(x.clone()?), at)),
         },
     }
     Ok(sum)

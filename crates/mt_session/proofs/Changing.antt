@@ -6,14 +6,14 @@ use Rattle.mt_term.specs.declared.universes.Sort.{Sort as AnySort}
 use Rattle.mt_term.specs.Declarations.{Declaration, Definition, Environment}
 use Rattle.mt_term.specs.Naming.{named, naming}
 use Rattle.mt_term.specs.States.{Metavariable}
-use Rattle.mt_term.specs.Charges.{Outcome, Done, Refused, Spent}
-use Rattle.mt_term.specs.KernelCheck.{check, check_type}
-use Rattle.mt_term.specs.Typing.{Has, Strict}
+use Rattle.mt_rules.specs.Charges.{Outcome, Done, Refused, Spent}
+use Rattle.mt_rules.specs.KernelCheck.{check, check_type}
+use Rattle.mt_calculus.specs.Typing.{Has, Strict}
 use Rattle.mt_term.specs.UniverseOrder.{acyclic}
-use Rattle.mt_term.specs.SoundEnvironment.{SoundEnvironment, SoundEntry, sound_definition, with_entry}
+use Rattle.mt_calculus.specs.SoundEnvironment.{SoundEnvironment, SoundEntry, sound_definition, with_entry}
 use Rattle.mt_term.specs.ScriptState.{Proof, State}
-use Rattle.mt_term.proofs.ReductionTheorems.{check_law, type_check_law}
-use Rattle.mt_term.proofs.UniverseOrderLaws.{acyclic_decides}
+use Rattle.mt_rules_laws.proofs.ReductionTheorems.{check_law, type_check_law}
+use Rattle.mt_universe.proofs.UniverseOrderLaws.{acyclic_decides}
 use Rattle.mt_env.specs.Names.{Distinct}
 use Rattle.mt_universe.specs.Graphs.{declared}
 use Rattle.mt_decl.proofs.Entries.{sound_with}

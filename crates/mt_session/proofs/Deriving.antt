@@ -1,23 +1,24 @@
 -- States whose terms have strict derivations are derivable.
-use Rattle.std.proofs.Common.{◌≡◌, ℕ, true, [], Option, Some, None, refl, ap, ◌∙◌, sym, subst}
+use Rattle.std.proofs.Common.{◌≡◌, ℕ, true, List, [], ◌∷◌, length, Option, Some, None, refl, ap, ◌∙◌, sym, subst}
 use Rattle.std.specs.Prelude.{slice_get, option_map}
 use Rattle.mt_term.specs.Trees.{Tree, Sort, Meta, End}
 use Rattle.mt_term.specs.declared.universes.Sort.{Sort as AnySort}
 use Rattle.mt_term.specs.Declarations.{Environment}
 use Rattle.mt_term.specs.States.{Metavariable}
 use Rattle.mt_term.specs.Substitution.{under}
-use Rattle.mt_term.specs.Stores.{AllMetasOf, MentionsOf, Declared, Store, store_of, types_of, declared_as, InStore, Owned, MentionsHeld, by_context, by_type, by_body, Reached, at_once, onward, Acyclic}
-use Rattle.mt_term.specs.Scopes.{Plain}
-use Rattle.mt_term.specs.Typing.{Has, Holds, Strict, c_empty, t_meta, k_sort}
-use Rattle.mt_term.specs.Instances.{held_body, InstanceContext, InstanceOfStore, inst_empty, inst_open, inst_assigned, inst_end}
-use Rattle.mt_term.specs.SoundEnvironment.{SoundEnvironment}
-use Rattle.mt_term.specs.SoundStore.{SoundInstance, SoundByInstances}
+use Rattle.mt_term.specs.Stores.{AllMetasOf, MentionsOf, Declared, Store, store_of, types_of, declared_as, InStore, Owned, MentionsHeld, by_context, by_type, by_body, Reached, at_once, onward, Acyclic, body_of}
+use Rattle.mt_calculus.specs.Scopes.{Plain}
+use Rattle.mt_calculus.specs.Typing.{IsContext, IsType, Has, Holds, Strict, c_empty, t_meta, k_sort}
+use Rattle.mt_term.specs.Instancing.{instance, instances, valued, body_values, put_values, assigned_body}
+use Rattle.mt_term.specs.Instances.{InstanceOf, InstanceContext, InstanceOfStore, inst_empty, inst_open, inst_assigned, inst_end}
+use Rattle.mt_calculus.specs.SoundEnvironment.{SoundEnvironment}
+use Rattle.mt_calculus.specs.SoundInstances.{SoundInstance, SoundByInstances}
 use Rattle.mt_term.specs.ScriptState.{Proof, State}
-use Rattle.mt_term.specs.Derivable.{Derivable, DerivableProof, DerivableIfOpen}
-use Rattle.mt_term.proofs.DerivationLaws.{strict_law, scope_law}
-use Rattle.mt_term.proofs.Images.{some_inj}
+use Rattle.mt_calculus.specs.Derivable.{Derivable, DerivableGoal, DerivableProof, DerivableIfOpen}
+use Rattle.mt_calculus_laws.proofs.DerivationLaws.{strict_law, scope_law}
+use Rattle.mt_term.proofs.Options.{some_inj}
 use Rattle.mt_session.specs.Ready.{IsOpenProof, IsTyped, SoundState}
-use Rattle.mt_session.proofs.Scoping.{plain_free, plain_metas, plain_instance, plain_under}
+use Rattle.mt_session.proofs.Scoping.{plain_free, plain_metas, plain_instance, plain_values, plain_under}
 
 -- the open metavariables of a store
 abbrev if_open : Option Tree → Declared → Option Declared
@@ -104,33 +105,81 @@ module _ (E : Environment) (sound : SoundEnvironment E) (S : Store) (simple : (n
   sound_store : SoundByInstances E S
   sound_store = record { owned = all_owned; acyclic = none_below; instance = opens S; is_instance = instance_of_opens; metavariables = sound_each }
 
-  proof_of_open : (p : Proof) → S.at p.root ≡ Some (record { context = []; ty = p.ty; body = None }) → DerivableProof E S p
+-- ---- what is printed of an open proof
+
+-- a term that mentions nothing is its own instance
+instance_plain : (ms : List Metavariable) (t : Tree) → Plain 0 t → instance ms t ≡ t
+instance_plain ms t p = plain_values (body_values ms (length ms)) 0 t p
+
+-- so is an open metavariable on no terms
+instance_open : (ms : List Metavariable) (n : ℕ) (m : Metavariable) → slice_get ms n ≡ Some m → m.body ≡ None → instance ms (Meta n End) ≡ Meta n End
+instance_open [] n m is e = refl
+instance_open (l ∷ ms) n m is e =
+    ap (λ o. valued (option_map (put_values (body_values (l ∷ ms) (length ms))) (assigned_body o)) n End) is
+    ∙ ap (λ o. valued (option_map (put_values (body_values (l ∷ ms) (length ms))) o) n End) e
+
+-- that of one whose body is closed is the body
+pub instance_closed : (ms : List Metavariable) (n : ℕ) (T b : Tree) → slice_get ms n ≡ Some (record { context = []; ty = T; body = Some b }) → Plain 0 b → instance ms (Meta n End) ≡ b
+instance_closed [] n T b is p = let no : ⊥ = cc in absurd no
+instance_closed (m ∷ ms) n T b is p =
+    ap (λ o. valued (option_map (put_values (body_values (m ∷ ms) (length ms))) (assigned_body o)) n End) is
+    ∙ ap (under End) (plain_values (body_values (m ∷ ms) (length ms)) 0 b p) ∙ plain_under b p
+
+module _ (E : Environment) (sound : SoundEnvironment E) (ms : List Metavariable) (typed : (n : ℕ) (m : Metavariable) → slice_get ms n ≡ Some m → IsTyped E m)
+    (simple : (n : ℕ) (d : Declared) → (store_of ms).at n ≡ Some d → IsSimple E d) where
+  abbrev S : Store
+  S = store_of ms
+
+  goal_of : (n : ℕ) (m : Metavariable) → slice_get ms n ≡ Some m → DerivableGoal E ms (opens S) m
+  goal_of n m is =
+      let t = typed n m is in
+      let v : instance ms m.ty ≡ m.ty = instance_plain ms m.ty (plain_typed E sound m.ty (Sort t.sort) t.ty) in
+      let empty : types_of (instances ms m.context) ≡ [] = ap (λ hs. types_of (instances ms hs)) t.context in record {
+        context = subst (λ Γ. Holds E true (opens S) Γ IsContext) (sym empty) c_empty;
+        ty =
+            subst (λ Γ. Holds E true (opens S) Γ (IsType (instance ms m.ty))) (sym empty)
+            (subst (λ T. Holds E true (opens S) [] (IsType T)) (sym v) (k_sort (strict_law E sound true (opens S) [] (Has m.ty (Sort t.sort)) t.ty)));
+      }
+
+  proof_by : (p : Proof) (t : Tree) → instance ms (Meta p.root End) ≡ t → InstanceOf S (Meta p.root End) t → Holds E true (opens S) [] (Has t p.ty) → Plain 0 p.ty → DerivableProof E ms p
+  proof_by p t e is h plain = record {
+    open_store = opens S;
+    is_instance = instance_of_opens E sound S simple;
+    is_term = subst (InstanceOf S (Meta p.root End)) (sym e) is;
+    is_statement = instance_plain ms p.ty plain;
+    typed = subst (λ u. Holds E true (opens S) [] (Has u p.ty)) (sym e) h;
+    goals = λ n m i o. goal_of n m i;
+  }
+
+  abbrev root_of : Proof → Option Tree → Metavariable
+  root_of p b = record { context = []; ty = p.ty; body = b }
+
+  there : (p : Proof) (b : Option Tree) → slice_get ms p.root ≡ Some (root_of p b) → S.at p.root ≡ Some (record { context = []; ty = p.ty; body = b })
+  there p b e = ap (option_map declared_as) e
+
+  proof_of_open : (p : Proof) → slice_get ms p.root ≡ Some (root_of p None) → DerivableProof E ms p
   unfolding opens
   proof_of_open p e =
       let d : Declared = record { context = []; ty = p.ty; body = None } in
-      let h = simple p.root d e in record {
-        instance = opens S;
-        is_instance = instance_of_opens;
-        term = Meta p.root End;
-        is_term = inst_open (ap held_body e) inst_end;
-        typed = subst (λ T. Holds E true (opens S) [] (Has (Meta p.root End) T)) (plain_under p.ty h.plain)
-            (t_meta {d = d} c_empty (ap only_open e) c_empty (k_sort (strict_law E sound true (opens S) [] (Has p.ty (Sort h.sort)) h.ty)) refl (λ i T l. elim l [ ]));
-      }
+      let at : S.at p.root ≡ Some d = there p None e in
+      let h = simple p.root d at in
+      proof_by p (Meta p.root End) (instance_open ms p.root (root_of p None) e refl) (inst_open (ap body_of at) inst_end)
+      (subst (λ T. Holds E true (opens S) [] (Has (Meta p.root End) T)) (plain_under p.ty h.plain)
+      (t_meta {d = d} c_empty (ap only_open at) c_empty (k_sort (strict_law E sound true (opens S) [] (Has p.ty (Sort h.sort)) h.ty)) refl (λ i T l. elim l [ ]))) h.plain
 
-  proof_of_closed : (p : Proof) (b : Tree) → S.at p.root ≡ Some (record { context = []; ty = p.ty; body = Some b }) → DerivableProof E S p
+  proof_of_closed : (p : Proof) (b : Tree) → slice_get ms p.root ≡ Some (root_of p (Some b)) → DerivableProof E ms p
   proof_of_closed p b e =
       let d : Declared = record { context = []; ty = p.ty; body = Some b } in
-      let h = (simple p.root d e).body b refl in record {
-        instance = opens S;
-        is_instance = instance_of_opens;
-        term = under End b;
-        is_term = inst_assigned (ap held_body e) (plain_instance S 0 b h.0) inst_end;
-        typed = subst (λ t. Holds E true (opens S) [] (Has t p.ty)) (sym (plain_under b h.0)) (strict_law E sound true (opens S) [] (Has b p.ty) h.1);
-      }
+      let at : S.at p.root ≡ Some d = there p (Some b) e in
+      let s = simple p.root d at in
+      let h = s.body b refl in
+      proof_by p b (instance_closed ms p.root p.ty b e h.0)
+      (subst (InstanceOf S (Meta p.root End)) (plain_under b h.0) (inst_assigned (ap body_of at) (plain_instance S 0 b h.0) inst_end))
+      (strict_law E sound true (opens S) [] (Has b p.ty) h.1) s.plain
 
-  proof_by : (p : Proof) (o : Option Tree) → S.at p.root ≡ Some (record { context = []; ty = p.ty; body = o }) → DerivableProof E S p
-  proof_by p None e = proof_of_open p e
-  proof_by p (Some b) e = proof_of_closed p b e
+  proof_of : (p : Proof) (o : Option Tree) → slice_get ms p.root ≡ Some (root_of p o) → DerivableProof E ms p
+  proof_of p None e = proof_of_open p e
+  proof_of p (Some b) e = proof_of_closed p b e
 
 module _ (s : State) (h : SoundState s) where
   simple_by : (n : ℕ) (d : Declared) (o : Option Metavariable) → slice_get s.store n ≡ o → option_map declared_as o ≡ Some d → IsSimple s.env d
@@ -140,9 +189,9 @@ module _ (s : State) (h : SoundState s) where
   simple_at : (n : ℕ) (d : Declared) → (store_of s.store).at n ≡ Some d → IsSimple s.env d
   simple_at n d e = simple_by n d (slice_get s.store n) refl e
 
-  derivable_if : (o : Option Proof) → IsOpenProof s.env s.store o → DerivableIfOpen s.env (store_of s.store) o
+  derivable_if : (o : Option Proof) → IsOpenProof s.env s.store o → DerivableIfOpen s.env s.store o
   derivable_if None p = tt
-  derivable_if (Some q) p = proof_by s.env h.env (store_of s.store) simple_at q p.body (ap (option_map declared_as) p.is)
+  derivable_if (Some q) p = proof_of s.env h.env s.store h.metas simple_at q p.body p.is
 
   -- a sound state is derivable
   pub derivable : Derivable s

@@ -1,15 +1,16 @@
 -- What a unit asks for fits the state.
 use Rattle.std.proofs.Common.{◌≡◌, ℕ, Bool, true, false, List, [], ◌∷◌, ◌++◌, length, Option, Some, None, refl, ap, ◌∙◌, sym, subst}
-use Rattle.std.specs.Prelude.{slice_get, option_map, drop, if◌then◌else◌, nat_lt}
+use Rattle.std.specs.Prelude.{slice_get, drop, if◌then◌else◌, nat_lt}
 use Rattle.mt_term.specs.Trees.{Tree, Bytes, Sort, Const, Meta, End}
-use Rattle.mt_term.specs.Declarations.{Definition, Environment, Reason, Taken, Cycle, NotHere}
+use Rattle.mt_term.specs.Declarations.{Definition, Environment}
+use Rattle.mt_term.specs.Reasons.{Reason, Taken, Cycle, NotHere}
 use Rattle.mt_term.specs.Naming.{named, naming}
 use Rattle.mt_term.specs.States.{Metavariable}
 use Rattle.mt_term.specs.Substitution.{under}
-use Rattle.mt_term.specs.Instancing.{instance, valued, body_values, put_values, assigned_body}
+use Rattle.mt_term.specs.Instancing.{instance}
 use Rattle.mt_term.specs.ScriptState.{Proof, State}
 use Rattle.mt_term.specs.UniverseOrder.{acyclic}
-use Rattle.mt_term.specs.Scopes.{Plain}
+use Rattle.mt_calculus.specs.Scopes.{Plain}
 use Rattle.mt_env.specs.Names.{Distinct}
 use Rattle.mt_env.proofs.NameLaws.{distinct_more}
 use Rattle.mt_env.proofs.NamingLaws.{naming_last}
@@ -24,19 +25,12 @@ use Rattle.mt_resolver.specs.Resolution.{Resolution, Found, Faults, then_found}
 use Rattle.mt_session.specs.Tasks.{Task, Order, Begin, Close, Rest, Finish, universes_of}
 use Rattle.mt_session.specs.Plans.{is_built_kind, fresh_by, fresh, closed_term, extra_name, ordered, asked_by_command, closed_by, asked_by_deed, asked_by_step, finished, asked_by_proof, asked_in, asked}
 use Rattle.mt_session.specs.Ready.{MentionsNothing, goals_of, IsProofOf, IsOpenProof, SoundState, IsTaskOf}
-use Rattle.mt_session.proofs.Deriving.{plain_typed}
-use Rattle.mt_session.proofs.Scoping.{plain_free, plain_values, plain_under}
+use Rattle.mt_session.proofs.Deriving.{plain_typed, instance_closed}
+use Rattle.mt_session.proofs.Scoping.{plain_free}
 
 pub found_then : {A B : Type 0} (r : Resolution A) (k : A → Resolution B) (b : B) → then_found r k ≡ Found b → (a : A) × (r ≡ Found a) × (k a ≡ Found b)
 found_then (Found a) k b e = (a, refl, e)
 found_then (Faults r at) k b e = let no : ⊥ = cc in absurd no
-
--- the instance of a metavariable on no terms, whose body is closed
-pub instance_closed : (ms : List Metavariable) (n : ℕ) (T b : Tree) → slice_get ms n ≡ Some (record { context = []; ty = T; body = Some b }) → Plain 0 b → instance ms (Meta n End) ≡ b
-instance_closed [] n T b is p = let no : ⊥ = cc in absurd no
-instance_closed (m ∷ ms) n T b is p =
-    ap (λ o. valued (option_map (put_values (body_values (m ∷ ms) (length ms))) (assigned_body o)) n End) is
-    ∙ ap (under End) (plain_values (body_values (m ∷ ms) (length ms)) 0 b p) ∙ plain_under b p
 
 abbrev pub nothing : Unit {0}
 nothing = tt

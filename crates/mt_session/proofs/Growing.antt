@@ -11,9 +11,9 @@ use Rattle.mt_term.specs.Declarations.{Constructor, Declaration, Axiom, Inductiv
 use Rattle.mt_term.specs.States.{Metavariable}
 use Rattle.mt_term.specs.Universes.{Constraints, Satisfiable, IsAtMost, SortIsAtMost}
 use Rattle.mt_term.specs.Stores.{no_store}
-use Rattle.mt_term.specs.Typing.{Claim, Has, Strict}
-use Rattle.mt_term.specs.SoundEnvironment.{EachArgument, SortedAtMost, ArgumentSorts, SoundConstructor, LargeAllowed, not_prop, no_constructor, one_constructor, SoundEnvironment, SoundEntry, sound_axiom, sound_definition, sound_inductive, sound_recursive, sound_corecursive, with_entry}
-use Rattle.mt_term.proofs.DerivationLaws.{growth_law}
+use Rattle.mt_calculus.specs.Typing.{Judgement, Has, Strict}
+use Rattle.mt_calculus.specs.SoundEnvironment.{EachArgument, SortedAtMost, ArgumentSorts, SoundConstructor, LargeAllowed, not_prop, no_constructor, one_constructor, SoundEnvironment, SoundEntry, sound_axiom, sound_definition, sound_inductive, sound_recursive, sound_corecursive, with_entry}
+use Rattle.mt_calculus_laws.proofs.DerivationLaws.{growth_law}
 use Rattle.mt_universe.specs.Graphs.{declared}
 use Rattle.mt_session.specs.Tasks.{universes_of, with_universes}
 use Rattle.mt_session.specs.Ready.{IsTyped}
@@ -93,7 +93,7 @@ module _ (names names' : List Bytes) (cs ds : Constraints) (more : (U V : UnivEx
   abbrev new : List Declaration → Environment
   new es = record { entries = es; names = names'; below = ds }
 
-  strict_more : (es : List Declaration) (Γ : List Tree) (J : Claim) → Strict (old es) Γ J → Strict (new es) Γ J
+  strict_more : (es : List Declaration) (Γ : List Tree) (J : Judgement) → Strict (old es) Γ J → Strict (new es) Γ J
   strict_more es Γ J h = growth_law (old es) (new es) (λ c d e. e) more false no_store Γ J h
 
   arguments_more : (es : List Declaration) (s : AnySort) (p : ℕ) (C : Tree) → ArgumentSorts (old es) s p C → ArgumentSorts (new es) s p C

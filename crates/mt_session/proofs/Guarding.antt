@@ -3,8 +3,8 @@ use Rattle.std.proofs.Common.{ℕ, Bool, List}
 use Rattle.mt_term.specs.Trees.{Tree, Trees, Arms, Bytes}
 use Rattle.mt_term.specs.Declarations.{Declaration, Environment}
 use Rattle.mt_term.specs.Universes.{Constraints}
-use Rattle.mt_term.specs.Contraction.{ConstructorOf}
-use Rattle.mt_term.specs.Guard.{Mark, BranchMarks, of_constructor, of_none, Guarded, guarded_call, guarded_cases, guarded_match, guarded_var, guarded_sort, guarded_prod, guarded_lam, guarded_app, guarded_const, guarded_ind, guarded_con, guarded_meta, GuardedAll, guarded_end, guarded_item, GuardedArms, guarded_no_arm, guarded_arm, GuardedBranches, guarded_no_branch, guarded_branch, OnType, on_type, GuardedUnder, past_binders, place_binder, other_binder, GuardedRecursive, UnderNoConstructor, absent, under_lam, under_match, under_con, ArmsUnderNoConstructor, no_arm_under, arm_under, UnderConstructor, past_types, at_parameter, at_other, at_recursive, at_call, CoinductiveResult, result_here, result_past, GuardedCorecursive}
+use Rattle.mt_calculus.specs.Contraction.{ConstructorOf}
+use Rattle.mt_calculus.specs.Guard.{Mark, BranchMarks, of_constructor, of_none, Guarded, guarded_call, guarded_cases, guarded_match, guarded_var, guarded_sort, guarded_prod, guarded_lam, guarded_app, guarded_const, guarded_ind, guarded_con, guarded_meta, GuardedAll, guarded_end, guarded_item, GuardedArms, guarded_no_arm, guarded_arm, GuardedBranches, guarded_no_branch, guarded_branch, OnType, on_type, GuardedUnder, past_binders, place_binder, other_binder, GuardedRecursive, CoinductiveMotive, motive_type, motive_past, UnderNoConstructor, absent, under_lam, under_match, under_con, ArmsUnderNoConstructor, no_arm_under, arm_under, UnderConstructor, past_types, at_parameter, at_other, at_recursive, at_call, CoinductiveResult, result_here, result_past, GuardedCorecursive}
 
 module _ (es : List Declaration) (names names' : List Bytes) (cs ds : Constraints) where
   abbrev old : Environment
@@ -53,8 +53,12 @@ module _ (es : List Declaration) (names names' : List Bytes) (cs ds : Constraint
 
     under_elsewhere : {n j : ℕ} {ms : List Mark} {t : Tree} → GuardedUnder old f r n j ms t → GuardedUnder new f r n j ms t
     under_elsewhere (past_binders g) = past_binders (term_elsewhere g)
-    under_elsewhere (place_binder e o g) = place_binder e (on_type_elsewhere o) (under_elsewhere g)
-    under_elsewhere (other_binder e g) = other_binder e (under_elsewhere g)
+    under_elsewhere (place_binder e a o g) = place_binder e a (on_type_elsewhere o) (under_elsewhere g)
+    under_elsewhere (other_binder e a g) = other_binder e a (under_elsewhere g)
+
+  motive_elsewhere : {R : Tree} → CoinductiveMotive old R → CoinductiveMotive new R
+  motive_elsewhere (motive_type o) = motive_type (on_type_elsewhere o)
+  motive_elsewhere (motive_past m) = motive_past (motive_elsewhere m)
 
   pub guarded_elsewhere : (f : ℕ) {n r : ℕ} {b : Tree} → GuardedRecursive old f n r b → GuardedRecursive new f n r b
   guarded_elsewhere f {r = r} g = (g.0, under_elsewhere f r g.1)
@@ -64,7 +68,7 @@ module _ (es : List Declaration) (names names' : List Bytes) (cs ds : Constraint
       no_constructor_elsewhere : {t : Tree} → UnderNoConstructor old f t → UnderNoConstructor new f t
       no_constructor_elsewhere (absent a) = absent a
       no_constructor_elsewhere (under_lam A b) = under_lam A (no_constructor_elsewhere b)
-      no_constructor_elsewhere (under_match R c bs) = under_match R c (arms_under_elsewhere bs)
+      no_constructor_elsewhere (under_match R m c bs) = under_match R (motive_elsewhere m) c (arms_under_elsewhere bs)
       no_constructor_elsewhere (under_con e k s is con u) = under_con e k s is con (arguments_elsewhere u)
 
       arms_under_elsewhere : {bs : Arms} → ArmsUnderNoConstructor old f bs → ArmsUnderNoConstructor new f bs

@@ -2,11 +2,11 @@
 use Rattle.std.proofs.Common.{◌≡◌, ◌≤◌, ℕ, ◌+◌, Bool, true, false, refl, arith}
 use Rattle.std.specs.Prelude.{if◌then◌else◌}
 use Rattle.mt_term.specs.Declarations.{Environment}
-use Rattle.mt_term.specs.Charges.{Outcome, Done, Refused, Spent, rest}
-use Rattle.mt_term.specs.KernelCheck.{check_type}
+use Rattle.mt_rules.specs.Charges.{Outcome, Done, Refused, Spent, rest}
+use Rattle.mt_rules.specs.KernelCheck.{check_type}
 use Rattle.mt_term.specs.Stores.{no_store}
 use Rattle.mt_term.specs.ScriptState.{State}
-use Rattle.mt_term.proofs.AllowanceTheorem.{allowance_law}
+use Rattle.mt_rules_laws.proofs.AllowanceTheorem.{allowance_law}
 use Rattle.mt_kernel.specs.Answers.{charge_of}
 use Rattle.mt_session.specs.Tasks.{Task, Order, Begin, Close, Rest, Finish, passed, judged}
 use Rattle.mt_session.specs.Moves.{Move, move_by, after_charge, charges_in}

@@ -5,12 +5,13 @@ use Rattle.std.proofs.lemmas.Bool.Decides.{nat_tests}
 use Rattle.mt_term.specs.Trees.{Tree, Bytes, Meta, End}
 use Rattle.mt_term.specs.TreeOf.{tree_of}
 use Rattle.mt_term.specs.MetaOf.{body_of}
-use Rattle.mt_term.specs.Declarations.{Environment, Taken, Cycle}
+use Rattle.mt_term.specs.Declarations.{Environment}
+use Rattle.mt_term.specs.Reasons.{Taken, Cycle}
 use Rattle.mt_term.specs.Instancing.{instance}
 use Rattle.mt_term.specs.Universes.{Satisfiable}
 use Rattle.mt_term.specs.UniverseOrder.{acyclic}
 use Rattle.mt_term.specs.declared.terms.Term.{Term}
-use Rattle.mt_term.proofs.UniverseOrderLaws.{acyclic_decides}
+use Rattle.mt_universe.proofs.UniverseOrderLaws.{acyclic_decides}
 use Rattle.mt_universe.specs.Graphs.{Universes, declared, IsGraph}
 use Rattle.mt_resolver.specs.Resolution.{Resolution, Found, Faults}
 use Rattle.mt_session.specs.declared.sessions.OpenProof.{OpenProof}
@@ -19,9 +20,9 @@ use Rattle.mt_session.specs.Tasks.{Finish, universes_of}
 use Rattle.mt_session.specs.Plans.{extra_name, ordered, finished}
 use Rattle.mt_session.specs.Ready.{SoundState, goals_of}
 use Rattle.mt_session.specs.Sessions.{state_in, store_in, meta_in, opened}
-use Rattle.mt_session.proofs.Deriving.{plain_typed}
+use Rattle.mt_session.proofs.Deriving.{plain_typed, instance_closed}
 use Rattle.mt_session.proofs.Growing.{slice_last}
-use Rattle.mt_session.proofs.Fitting.{nothing, instance_closed}
+use Rattle.mt_session.proofs.Fitting.{nothing}
 
 -- a graph that is the same
 pub graph_same : {A F : Type 0} (r : Result A F) (h g : Universes) (x a y b : Bytes) → h ≡ g → x ≡ a → y ≡ b → OnOk r (IsGraph (declared h x y)) → OnOk r (IsGraph (declared g a b))

@@ -3,10 +3,10 @@ use Rattle.std.proofs.Common.{◌≡◌, inl, inr, ℕ, suc, Option, refl, arith
 use Rattle.mt_term.specs.Trees.{Tree, Arms, Var, Sort, Prod, Lam, App, Const, Ind, Con, Match, Meta, End, NoArm, Arm}
 use Rattle.mt_term.specs.Substitution.{under}
 use Rattle.mt_term.specs.Stores.{Store, AllMetas, AllMetasArms, Mentions, MentionsArms}
-use Rattle.mt_term.specs.Scopes.{deep, Plain, PlainArms}
+use Rattle.mt_calculus.specs.Scopes.{past_names, Plain, PlainArms}
 use Rattle.mt_term.specs.Instances.{InstanceOf, InstanceArms, inst_var, inst_sort, inst_prod, inst_lam, inst_app, inst_const, inst_ind, inst_con, inst_match, inst_no_arm, inst_arm}
 use Rattle.mt_term.specs.Instancing.{put_values, put_values_arms}
-use Rattle.mt_term.proofs.Plain.{plain_fixed}
+use Rattle.mt_calculus_laws.proofs.Plain.{plain_fixed}
 
 -- nothing is mentioned
 mutual
@@ -29,7 +29,7 @@ mutual
 
   pub plain_free_arms : (n : ℕ) (bs : Arms) → PlainArms n bs → (m : ℕ) → MentionsArms m bs → ⊥
   plain_free_arms n NoArm p m h = h
-  plain_free_arms n (Arm xs b bs) p m (inl h) = plain_free (deep xs n) b p.0 m h
+  plain_free_arms n (Arm xs b bs) p m (inl h) = plain_free (past_names xs n) b p.0 m h
   plain_free_arms n (Arm xs b bs) p m (inr h) = plain_free_arms n bs p.1 m h
 
 mutual
@@ -47,7 +47,7 @@ mutual
 
   pub plain_metas_arms : (P : ℕ → Type 0) (n : ℕ) (bs : Arms) → PlainArms n bs → AllMetasArms P bs
   plain_metas_arms P n NoArm p = tt
-  plain_metas_arms P n (Arm xs b bs) p = (plain_metas P (deep xs n) b p.0, plain_metas_arms P n bs p.1)
+  plain_metas_arms P n (Arm xs b bs) p = (plain_metas P (past_names xs n) b p.0, plain_metas_arms P n bs p.1)
 
 -- such a term is its own instance
 mutual
@@ -65,7 +65,7 @@ mutual
 
   pub plain_instance_arms : (S : Store) (n : ℕ) (bs : Arms) → PlainArms n bs → InstanceArms S bs bs
   plain_instance_arms S n NoArm p = inst_no_arm
-  plain_instance_arms S n (Arm xs b bs) p = inst_arm (plain_instance S (deep xs n) b p.0) (plain_instance_arms S n bs p.1)
+  plain_instance_arms S n (Arm xs b bs) p = inst_arm (plain_instance S (past_names xs n) b p.0) (plain_instance_arms S n bs p.1)
 
 mutual
   pub plain_values : (f : ℕ → Option Tree) (n : ℕ) (t : Tree) → Plain n t → put_values f t ≡ t
@@ -82,7 +82,7 @@ mutual
 
   pub plain_values_arms : (f : ℕ → Option Tree) (n : ℕ) (bs : Arms) → PlainArms n bs → put_values_arms f bs ≡ bs
   plain_values_arms f n NoArm p = refl
-  plain_values_arms f n (Arm xs b bs) p = let a = plain_values f (deep xs n) b p.0 in let d = plain_values_arms f n bs p.1 in cc
+  plain_values_arms f n (Arm xs b bs) p = let a = plain_values f (past_names xs n) b p.0 in let d = plain_values_arms f n bs p.1 in cc
 
 -- it is the same under no terms
 pub plain_under : (t : Tree) → Plain 0 t → under End t ≡ t

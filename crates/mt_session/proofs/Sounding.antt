@@ -2,9 +2,10 @@
 use Rattle.std.proofs.Common.{◌≡◌, ℕ, zero, suc, Bool, true, false, Option, Some, None, refl, subst}
 use Rattle.std.specs.Prelude.{IfSome, if◌then◌else◌}
 use Rattle.mt_term.specs.Trees.{Bytes}
-use Rattle.mt_term.specs.Charges.{Outcome, Done, Refused, Spent}
+use Rattle.mt_term.specs.Naming.{naming}
+use Rattle.mt_rules.specs.Charges.{Outcome, Done, Refused, Spent}
 use Rattle.mt_term.specs.ScriptState.{State}
-use Rattle.mt_term.specs.Derivable.{Derivable}
+use Rattle.mt_calculus.specs.Derivable.{Derivable}
 use Rattle.mt_term_parser.specs.Readings.{Reading, Got, Stops}
 use Rattle.mt_unit_parser.specs.WrittenUnits.{WrittenUnit}
 use Rattle.mt_unit_parser.specs.Blocks.{unit}
@@ -18,6 +19,7 @@ use Rattle.mt_decl.proofs.Names.{names_law}
 use Rattle.mt_session.specs.Tasks.{Task, judged, changed, with_entry_noted}
 use Rattle.mt_session.specs.Plans.{asked, declares, takes_charge}
 use Rattle.mt_session.specs.Moves.{Move, Goes, Fails, move_by, move_for, after_charge, move_by_entry, move_asked, move_declared, move}
+use Rattle.mt_env.specs.Names.{Distinct}
 use Rattle.mt_session.specs.Ready.{SoundState, IsTaskOf}
 use Rattle.mt_session.specs.Runs.{Run, run_from, by_reading, by_move, ended, empty_state, allowance}
 use Rattle.mt_session.proofs.Deriving.{derivable}
@@ -84,6 +86,14 @@ empty_sound = record {
 
 each_derivable : (text : Bytes) (n : ℕ) → Derivable (run_from text n empty_state).state
 each_derivable text n = derivable (run_from text n empty_state).state (run_sound text n empty_state empty_sound)
+
+-- and no name stands twice in it
+each_named_once : (text : Bytes) (n : ℕ) → Distinct (naming (run_from text n empty_state).state.env.entries)
+each_named_once text n = (run_sound text n empty_state empty_sound).names
+
+pub named_once_where_told : (o : Option Bytes) → IfSome o (λ bytes. (n : ℕ) → Distinct (naming (run_from bytes n empty_state).state.env.entries))
+named_once_where_told None = tt
+named_once_where_told (Some bytes) = each_named_once bytes
 
 pub derivable_where_told : (o : Option Bytes) → IfSome o (λ bytes. (n : ℕ) → Derivable (run_from bytes n empty_state).state)
 derivable_where_told None = tt

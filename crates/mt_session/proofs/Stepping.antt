@@ -4,9 +4,9 @@ use Rattle.std.specs.Prelude.{Result, Ok, Err, IfOk, OnOk, OnErr, if◌then◌el
 use Rattle.std.specs.Str.{IsUtf8, IsCharBoundary}
 use Rattle.std.proofs.lemmas.Str.{IsCharBoundary-start}
 use Rattle.mt_term.specs.Declarations.{Declaration}
-use Rattle.mt_term.specs.Charges.{Outcome, Done, Refused, Spent}
+use Rattle.mt_rules.specs.Charges.{Outcome, Done, Refused, Spent}
 use Rattle.mt_term.specs.ScriptState.{State}
-use Rattle.mt_term.specs.declared.refusals.Fault.{Fault}
+use Rattle.mt_term.specs.declared.refusals.Fault.{Fault as HeldFault}
 use Rattle.mt_term_parser.specs.Readings.{Reading, Got, Stops}
 use Rattle.mt_unit_parser.specs.WrittenUnits.{WrittenUnit}
 use Rattle.mt_unit_parser.specs.Blocks.{unit}
@@ -16,14 +16,14 @@ use Rattle.mt_decl.specs.Answers as answers
 use Rattle.mt_decl.specs.Declaring.{declared_entry}
 use Rattle.mt_session.specs.declared.sessions.Session.{Session}
 use Rattle.mt_session.specs.declared.running.Step.{Step}
-use Rattle.mt_session.specs.declared.running.Step.TheVariants.{On, Over}
+use Rattle.mt_session.specs.declared.running.Step.TheVariants.{Accepted, Ended}
 use Rattle.mt_session.specs.Tasks.{Task, Order, Begin, Close, Rest, Finish, judged, changed, with_entry_noted}
 use Rattle.mt_session.specs.Plans.{asked, declares, takes_charge}
 use Rattle.mt_session.specs.Moves.{Move, Goes, Fails, move_by, move_for, after_charge, move_by_entry, move_asked, move_declared, move, charges_in}
 use Rattle.mt_session.specs.Ready.{SoundState}
 use Rattle.mt_session.specs.Runs.{run, run_from, cost, cost_from, by_reading, by_move, ended, empty_state, allowance}
 use Rattle.mt_session.specs.Sessions.{AreTables, IsReady, state_in}
-use Rattle.mt_session.specs.Steps.{Accepts, Refuses, MovesAs, GoesOn, IsOver, StepIs, CostIs, run_on, cost_on, blame_of, blame_in}
+use Rattle.mt_session.specs.Steps.{Accepts, Refuses, MovesAs, GoesOn, IsOver, StepIs, CostIs, run_on, cost_on, fault_of, fault_in}
 use Rattle.mt_session.proofs.Sounding.{empty_sound, move_sound}
 
 -- ---- where a unit leads
@@ -82,14 +82,14 @@ module _ (text : List ℕ) (old : Session) where
   pub over_end : (m : ℕ) → unit text old.place ≡ Got None m → IsOver text old old None
   over_end m e = record { same = λ n. run_read n (Got None m) e }
 
-  pub over_fault : (f : Fault) → unit text old.place ≡ Stops (blame_of f).0 (blame_of f).1 → IsOver text old old (Some f)
-  over_fault f e = record { same = λ n. run_read n (Stops (blame_of f).0 (blame_of f).1) e }
+  pub over_fault : (f : HeldFault) → unit text old.place ≡ Stops (fault_of f).0 (fault_of f).1 → IsOver text old old (Some f)
+  over_fault f e = record { same = λ n. run_read n (Stops (fault_of f).0 (fault_of f).1) e }
 
   pub cost_end : (m before : ℕ) → unit text old.place ≡ Got None m → (n : ℕ) → before + cost_on text (suc n) old ≡ before
   cost_end m before e n = let none = cost_read n (Got None m) e in omega (arith, none)
 
-  pub cost_fault : (f : Fault) (before : ℕ) → unit text old.place ≡ Stops (blame_of f).0 (blame_of f).1 → (n : ℕ) → before + cost_on text (suc n) old ≡ before
-  cost_fault f before e n = let none = cost_read n (Stops (blame_of f).0 (blame_of f).1) e in omega (arith, none)
+  pub cost_fault : (f : HeldFault) (before : ℕ) → unit text old.place ≡ Stops (fault_of f).0 (fault_of f).1 → (n : ℕ) → before + cost_on text (suc n) old ≡ before
+  cost_fault f before e n = let none = cost_read n (Stops (fault_of f).0 (fault_of f).1) e in omega (arith, none)
 
   module _ (u : WrittenUnit) (m : ℕ) (e : unit text old.place ≡ Got (Some u) m) where
     goes : (new : Session) → old.place < u.end → Accepts (move (state_in old) u allowance) new → GoesOn text old new
@@ -100,13 +100,13 @@ module _ (text : List ℕ) (old : Session) where
           count = to.count;
         }
 
-    over : (new : Session) (f : Fault) → state_in new ≡ state_in old → Refuses (move (state_in old) u allowance) f → IsOver text old new (Some f)
-    over new f same a = record { same = λ n. run_read n (Got (Some u) m) e ∙ ap (λ v. by_move v (λ b. ended (state_in old) (Some b)) (λ t. run_from text n t)) a.is ∙ ap (λ t. ended t (Some (blame_of f))) (sym same) }
+    over : (new : Session) (f : HeldFault) → state_in new ≡ state_in old → Refuses (move (state_in old) u allowance) f → IsOver text old new (Some f)
+    over new f same a = record { same = λ n. run_read n (Got (Some u) m) e ∙ ap (λ v. by_move v (λ b. ended (state_in old) (Some b)) (λ t. run_from text n t)) a.is ∙ ap (λ t. ended t (Some (fault_of f))) (sym same) }
 
     pub step_of_unit : {E : Type 0} (new : Session) (r : Result Step E) → old.place < u.end → IfOk r (λ s. MovesAs (move (state_in old) u allowance) old new s) → IfOk r (λ s. StepIs text old new s)
-    step_of_unit new (Ok On) past a = goes new past a.0
-    step_of_unit new (Ok (Over None)) past a = absurd a
-    step_of_unit new (Ok (Over (Some f))) past a = over new f a.1 a.0
+    step_of_unit new (Ok Accepted) past a = goes new past a.0
+    step_of_unit new (Ok (Ended None)) past a = absurd a
+    step_of_unit new (Ok (Ended (Some f))) past a = over new f a.1 a.0
     step_of_unit new (Err x) past a = tt
 
     ready : (new : Session) → IsReady text old → old.place < u.end → IsCharBoundary text u.end → Accepts (move (state_in old) u allowance) new → AreTables new → IsReady text new
@@ -129,18 +129,18 @@ module _ (text : List ℕ) (old : Session) where
         }
 
     pub ready_of_unit : {E : Type 0} (new : Session) (r : Result Step E) → IsReady text old → old.place < u.end → IsCharBoundary text u.end → IfOk r (λ s. MovesAs (move (state_in old) u allowance) old new s) → OnOk r (IsReady text new)
-    ready_of_unit new (Ok On) h past at a = ready new h past at a.0 a.1
-    ready_of_unit new (Ok (Over None)) h past at a = absurd a
-    ready_of_unit new (Ok (Over (Some f))) h past at a = still new h a.1 a.2
+    ready_of_unit new (Ok Accepted) h past at a = ready new h past at a.0 a.1
+    ready_of_unit new (Ok (Ended None)) h past at a = absurd a
+    ready_of_unit new (Ok (Ended (Some f))) h past at a = still new h a.1 a.2
     ready_of_unit new (Err x) h past at a = tt
 
     cost_moved : (n : ℕ) (v : Move) → move (state_in old) u allowance ≡ v → cost_on text (suc n) old ≡ charges_in allowance (move (state_in old) u allowance) + by_move v (λ b. 0) (λ t. cost_from text n t)
     cost_moved n v g = cost_read n (Got (Some u) m) e ∙ ap (λ v. charges_in allowance (move (state_in old) u allowance) + by_move v (λ b. 0) (λ t. cost_from text n t)) g
 
     pub cost_of_unit : {E : Type 0} (new : Session) (before now : ℕ) (r : Result Step E) → IfOk r (λ s. MovesAs (move (state_in old) u allowance) old new s) → OnOk r (now ≡ before + charges_in allowance (move (state_in old) u allowance)) → IfOk r (λ s. CostIs text old new before now s)
-    cost_of_unit new before now (Ok On) a c = λ n. let whole = cost_moved n (Goes (state_in new) a.0.left) a.0.is in omega (arith, whole, c)
-    cost_of_unit new before now (Ok (Over None)) a c = absurd a
-    cost_of_unit new before now (Ok (Over (Some f))) a c = λ n. let whole = cost_moved n (Fails (blame_of f) a.0.left) a.0.is in omega (arith, whole, c)
+    cost_of_unit new before now (Ok Accepted) a c = λ n. let whole = cost_moved n (Goes (state_in new) a.0.left) a.0.is in omega (arith, whole, c)
+    cost_of_unit new before now (Ok (Ended None)) a c = absurd a
+    cost_of_unit new before now (Ok (Ended (Some f))) a c = λ n. let whole = cost_moved n (Fails (fault_of f) a.0.left) a.0.is in omega (arith, whole, c)
     cost_of_unit new before now (Err x) a c = tt
 
     pub most_of_unit : {E : Type 0} (before now : ℕ) (r : Result Step E) → OnErr r (now ≤ before + charges_in allowance (move (state_in old) u allowance)) → OnErr r ((n : ℕ) → now ≤ before + cost_on text (suc n) old)
@@ -156,7 +156,7 @@ goes_on text old new ready went e =
     let after : suc (length text) - new.units ≡ n = omega (arith, went.count) in
     ap (λ k. run_on text k new) after ∙ sym (went.same n) ∙ ap (λ k. run_on text k old) (sym before) ∙ e
 
-pub is_over : (text : List ℕ) (old new : Session) (f : Option Fault) → IsReady text old → IsOver text old new f → run_on text (suc (length text) - old.units) old ≡ run text → run text ≡ ended (state_in new) (blame_in f)
+pub is_over : (text : List ℕ) (old new : Session) (f : Option HeldFault) → IsReady text old → IsOver text old new f → run_on text (suc (length text) - old.units) old ≡ run text → run text ≡ ended (state_in new) (fault_in f)
 is_over text old new f ready over e =
     let n = length text - old.units in
     let before : suc (length text) - old.units ≡ suc n = omega (arith, ready.count, ready.place.0) in

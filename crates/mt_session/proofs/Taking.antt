@@ -1,11 +1,10 @@
 -- A unit is taken: its own charge, what it asks for, and what the kernel says.
 use Rattle.std.proofs.Common.{◌≡◌, ◌≤◌, ℕ, ◌+◌, Bool, true, false, Option, Some, None, refl, ap, ◌∙◌, sym, subst, arith}
 use Rattle.std.specs.Prelude.{Result, Ok, Err, IfOk, OnOk, OnErr, if◌then◌else◌}
-use Rattle.mt_term.specs.Declarations.{Reason, KernelRefused, number_of}
-use Rattle.mt_term.specs.Declarations.{Spent as AllowanceSpent}
-use Rattle.mt_term.specs.Charges.{Outcome, Done, Refused, Spent}
+use Rattle.mt_term.specs.Reasons.{Reason, KernelRefused, number_of, Spent as AllowanceSpent}
+use Rattle.mt_rules.specs.Charges.{Outcome, Done, Refused, Spent}
 use Rattle.mt_term.specs.ScriptState.{Proof, State}
-use Rattle.mt_term.specs.declared.refusals.Fault.{Fault}
+use Rattle.mt_term.specs.declared.refusals.Fault.{Fault as HeldFault}
 use Rattle.mt_unit_parser.specs.WrittenUnits.{WrittenKind, WrittenUnit}
 use Rattle.mt_resolver.specs.Resolution.{Resolution, Found, Faults}
 use Rattle.mt_kernel.specs.Answers.{charge_of}
@@ -15,7 +14,7 @@ use Rattle.mt_session.specs.Tasks.{Task, judged, changed}
 use Rattle.mt_session.specs.Plans.{asked, declares, takes_charge}
 use Rattle.mt_session.specs.Moves.{Move, Goes, Fails, move_by, move_for, after_charge, move, move_asked, move_declared, charges_in}
 use Rattle.mt_session.specs.Sessions.{state_in}
-use Rattle.mt_session.specs.Steps.{Accepts, Refuses, MovesAs, blame_of, refusal_of}
+use Rattle.mt_session.specs.Steps.{Accepts, Refuses, MovesAs, fault_of, refusal_of}
 use Rattle.mt_session.proofs.Lasting.{charges_judged, after_own}
 
 -- ---- by the kernel's outcome
@@ -26,10 +25,10 @@ module _ (s : State) (start end : ℕ) (k : Task) where
   accepts_by (Refused r left) new n e = let no : ⊥ = cc in absurd no
   accepts_by Spent new n e = let no : ⊥ = cc in absurd no
 
-  pub refuses_by : (o : Outcome (Unit {0})) (f : Fault) → refusal_of o ≡ Some (blame_of f).0 → f.at ≡ start → Refuses (move_by s start end k o) f
+  pub refuses_by : (o : Outcome (Unit {0})) (f : HeldFault) → refusal_of o ≡ Some (fault_of f).0 → f.at ≡ start → Refuses (move_by s start end k o) f
   refuses_by (Done z left) f n e = let no : ⊥ = cc in absurd no
-  refuses_by (Refused r left) f n e = let same : KernelRefused (number_of r) ≡ (blame_of f).0 = cc in record { left = left; is = ap (λ c. Fails (c, start) left) same ∙ ap (λ at. Fails ((blame_of f).0, at) left) (sym e) }
-  refuses_by Spent f n e = let same : AllowanceSpent ≡ (blame_of f).0 = cc in record { left = 0; is = ap (λ c. Fails (c, start) 0) same ∙ ap (λ at. Fails ((blame_of f).0, at) 0) (sym e) }
+  refuses_by (Refused r left) f n e = let same : KernelRefused (number_of r) ≡ (fault_of f).0 = cc in record { left = left; is = ap (λ c. Fails (c, start) left) same ∙ ap (λ at. Fails ((fault_of f).0, at) left) (sym e) }
+  refuses_by Spent f n e = let same : AllowanceSpent ≡ (fault_of f).0 = cc in record { left = 0; is = ap (λ c. Fails (c, start) 0) same ∙ ap (λ at. Fails ((fault_of f).0, at) 0) (sym e) }
 
 -- ---- by what the unit asks for
 
@@ -78,7 +77,7 @@ module _ (s : State) (u : WrittenUnit) where
       own ∙ ap (λ q. move_for s u.start u.end q (if takes_charge s.proof u.kind then 99999 else 100000)) e ∙ ap (λ m. move_by s u.start u.end k (judged s.env k m)) (sym a) in
       subst (λ m. IfOk r (λ st. MovesAs m old new st)) (sym same) h
 
-  pub refuses_faults : (f : Fault) → asked s u.start u.kind ≡ Faults (blame_of f).0 (blame_of f).1 → Refuses (move_asked s u 100000) f
+  pub refuses_faults : (f : HeldFault) → asked s u.start u.kind ≡ Faults (fault_of f).0 (fault_of f).1 → Refuses (move_asked s u 100000) f
   refuses_faults f e =
       let own = after_own (takes_charge s.proof u.kind) u.start (move_for s u.start u.end (asked s u.start u.kind)) in record {
         left = if takes_charge s.proof u.kind then 99999 else 100000;

@@ -1,6 +1,6 @@
 -- The kernel's verdicts on what units ask for.
 use Rattle.std.proofs.Common.{◌≡◌, ℕ, refl}
-use Rattle.mt_term.specs.Charges.{Outcome, Done, Refused, Spent}
+use Rattle.mt_rules.specs.Charges.{Outcome, Done, Refused, Spent}
 use Rattle.mt_kernel.specs.Answers.{verdict_of, charge_of}
 use Rattle.mt_session.specs.Tasks.{passed}
 use Rattle.mt_session.specs.Steps.{refusal_of, refusal_by}

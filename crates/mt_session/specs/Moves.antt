@@ -1,8 +1,8 @@
 -- One unit from a state, under an allowance.
 use Rattle.std.specs.Prelude.{ℕ, zero, suc, ◌-◌, Bool, true, false, if◌then◌else◌}
-use Rattle.mt_term.specs.Declarations.{Declaration, Reason, KernelRefused, number_of}
-use Rattle.mt_term.specs.Declarations.{Spent as AllowanceSpent}
-use Rattle.mt_term.specs.Charges.{Outcome, Done, Refused, Spent}
+use Rattle.mt_term.specs.Declarations.{Declaration}
+use Rattle.mt_term.specs.Reasons.{Reason, KernelRefused, number_of, Spent as AllowanceSpent}
+use Rattle.mt_rules.specs.Charges.{Outcome, Done, Refused, Spent}
 use Rattle.mt_term.specs.ScriptState.{State}
 use Rattle.mt_unit_parser.specs.WrittenUnits.{WrittenUnit}
 use Rattle.mt_resolver.specs.Resolution.{Resolution, Found, Faults}
@@ -13,13 +13,13 @@ use Rattle.mt_session.specs.Tasks.{Task, judged, changed, with_entry_noted}
 use Rattle.mt_session.specs.Plans.{asked, declares, takes_charge}
 
 -- why a unit is refused, and the place
-abbrev pub Blame : Type 0
-Blame = Reason × ℕ
+abbrev pub Fault : Type 0
+Fault = Reason × ℕ
 
 -- the unit was accepted, or refused; and what is left of the allowance
 pub data Move : Type 0 where
   Goes : State → ℕ → Move
-  Fails : Blame → ℕ → Move
+  Fails : Fault → ℕ → Move
 
 -- by what the kernel says: its No and the end of the allowance stand at the unit's start
 abbrev pub move_by : State → ℕ → ℕ → Task → Outcome (Unit {0}) → Move

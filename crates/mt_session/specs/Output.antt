@@ -3,14 +3,14 @@ use Rattle.std.specs.Prelude.{ℕ, Bool, false, if◌then◌else◌, List, [], �
 use Rattle.std.specs.Str.{is_utf8}
 use Rattle.std.specs.Fmt.{decimal}
 use Rattle.mt_term.specs.Trees.{Bytes}
-use Rattle.mt_term.specs.Declarations.{Reason, Lex, Syntax, Incomplete, TooDeep, Unbound, Taken, Mismatch, NotAFunction, NotASort, NoExpected, Cycle, NotPositive, NotGuarded, BadElimination, BadHint, BadCoercion, OpenMetas, NoGoal, NoBranch, NoSuchPosition, NotHere, KernelRefused, Spent, number_of}
+use Rattle.mt_term.specs.Reasons.{Reason, Lex, Syntax, Incomplete, TooDeep, Unbound, Taken, Mismatch, NotAFunction, NotASort, NoExpected, Cycle, NotPositive, NotGuarded, BadElimination, BadHint, BadCoercion, OpenMetas, NoGoal, NoBranch, NoSuchPosition, NotHere, KernelRefused, Spent, number_of}
 use Rattle.mt_term.specs.ScriptState.{State}
 use Rattle.mt_printer.specs.Columns.{column_of}
 use Rattle.mt_printer.specs.EnvText.{env_text}
 use Rattle.mt_printer.specs.GoalsText.{goals_text}
 use Rattle.mt_session.specs.declared.serving.Status.{Status}
 use Rattle.mt_session.specs.declared.serving.Status.TheVariants.{Done as RunDone, Refused as RunRefused, BadFrame, TooLong}
-use Rattle.mt_session.specs.Moves.{Blame}
+use Rattle.mt_session.specs.Moves.{Fault}
 use Rattle.mt_session.specs.Runs.{Run, run, cost, is_clean}
 
 abbrev pub line_end : List ℕ
@@ -79,7 +79,7 @@ end_text = codes "end" ++ line_end
 abbrev pub state_text : State → List ℕ
 state_text s = placed (codes "state ") s.units s.place ++ line_end ++ env_text s ++ goals_text s ++ end_text
 
-abbrev pub reply : Bytes → State → Option Blame → Bytes
+abbrev pub reply : Bytes → State → Option Fault → Bytes
 reply text s None = ok_text s.units s.place
 reply text s (Some f) = no_text s.units s.place f.0 f.1 (column_of text f.1)
 

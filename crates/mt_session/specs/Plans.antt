@@ -1,7 +1,8 @@
 -- What a unit asks for in a state: its conditions and names in their order, without charges. Units that declare an entry stand apart.
 use Rattle.std.specs.Prelude.{ℕ, Bool, true, false, ◌&&◌, if◌then◌else◌, nat_lt, nat_le, List, [], ◌∷◌, length, Option, Some, None}
 use Rattle.mt_term.specs.Trees.{Tree, Bytes, Meta, End}
-use Rattle.mt_term.specs.Declarations.{Environment, Taken, Cycle, OpenMetas, NoGoal, NotHere}
+use Rattle.mt_term.specs.Declarations.{Environment}
+use Rattle.mt_term.specs.Reasons.{Taken, Cycle, OpenMetas, NoGoal, NotHere}
 use Rattle.mt_term.specs.Naming.{named}
 use Rattle.mt_term.specs.Instancing.{instance}
 use Rattle.mt_term.specs.ScriptState.{Proof, State}

@@ -2,8 +2,8 @@
 use Rattle.std.specs.Prelude.{◌≡◌, ℕ, Bool, true, List, [], ◌∷◌, ◌++◌, Option, Some, None, slice_get, drop}
 use Rattle.mt_term.specs.Trees.{Tree, Sort}
 use Rattle.mt_term.specs.declared.universes.Sort.{Sort as AnySort}
-use Rattle.mt_term.specs.Typing.{Has, Strict}
-use Rattle.mt_term.specs.SoundEnvironment.{SoundEnvironment}
+use Rattle.mt_calculus.specs.Typing.{Has, Strict}
+use Rattle.mt_calculus.specs.SoundEnvironment.{SoundEnvironment}
 use Rattle.mt_term.specs.Declarations.{Definition, Environment}
 use Rattle.mt_term.specs.Naming.{named, naming}
 use Rattle.mt_term.specs.States.{Metavariable}

@@ -5,7 +5,7 @@ use Rattle.mt_term.specs.ScriptState.{Proof, State}
 use Rattle.mt_term_parser.specs.Readings.{Reading, Got, Stops}
 use Rattle.mt_unit_parser.specs.WrittenUnits.{WrittenUnit}
 use Rattle.mt_unit_parser.specs.Blocks.{unit}
-use Rattle.mt_session.specs.Moves.{Blame, Move, Goes, Fails, move, charges_in}
+use Rattle.mt_session.specs.Moves.{Fault, Move, Goes, Fails, move, charges_in}
 
 -- the allowance of each unit
 abbrev pub allowance : ℕ
@@ -18,18 +18,18 @@ empty_state = record { env = record { entries = []; names = []; below = [] }; st
 -- where a run ends: the state, and what was refused, if anything was
 pub record Run : Type 0 where
   pub state : State
-  pub fault : Option Blame
+  pub fault : Option Fault
 
-abbrev pub ended : State → Option Blame → Run
+abbrev pub ended : State → Option Fault → Run
 ended s f = record { state = s; fault = f }
 
 -- by what is read: a fault, the end, or a unit
-abbrev pub by_reading : {A : Type 0} → Reading (Option WrittenUnit) → (Blame → A) → A → (WrittenUnit → A) → A
+abbrev pub by_reading : {A : Type 0} → Reading (Option WrittenUnit) → (Fault → A) → A → (WrittenUnit → A) → A
 by_reading (Stops r at) wrong end go = wrong (r, at)
 by_reading (Got None e) wrong end go = end
 by_reading (Got (Some u) e) wrong end go = go u
 
-abbrev pub by_move : {A : Type 0} → Move → (Blame → A) → (State → A) → A
+abbrev pub by_move : {A : Type 0} → Move → (Fault → A) → (State → A) → A
 by_move (Goes s left) wrong go = go s
 by_move (Fails b left) wrong go = wrong b
 
@@ -55,7 +55,7 @@ unfoldable pub cost : Bytes → ℕ
 cost text = cost_from text (suc (length text)) empty_state
 
 -- nothing was refused, and no proof is open
-abbrev pub has_no_fault : Option Blame → Bool
+abbrev pub has_no_fault : Option Fault → Bool
 has_no_fault None = true
 has_no_fault (Some b) = false
 

@@ -1,17 +1,16 @@
 -- Steps of a run, as the code takes them.
 use Rattle.std.specs.Prelude.{◌≡◌, ◌<◌, ℕ, suc, ◌+◌, Option, Some, None}
 use Rattle.mt_term.specs.Trees.{Bytes}
-use Rattle.mt_term.specs.Declarations.{Reason, KernelRefused, number_of}
-use Rattle.mt_term.specs.Declarations.{Spent as AllowanceSpent}
+use Rattle.mt_term.specs.Reasons.{Reason, KernelRefused, number_of, Spent as AllowanceSpent}
 use Rattle.mt_term.specs.ReasonOf.{reason_of}
-use Rattle.mt_term.specs.Charges.{Outcome, Done, Refused, Spent}
+use Rattle.mt_rules.specs.Charges.{Outcome, Done, Refused, Spent}
 use Rattle.mt_term.specs.declared.refusals.Refusal.{Refusal}
-use Rattle.mt_term.specs.declared.refusals.Fault.{Fault}
+use Rattle.mt_term.specs.declared.refusals.Fault.{Fault as HeldFault}
 use Rattle.mt_kernel.specs.Answers.{Answer, Yes, No, Spent as SpentAnswer}
 use Rattle.mt_session.specs.declared.sessions.Session.{Session}
 use Rattle.mt_session.specs.declared.running.Step.{Step}
-use Rattle.mt_session.specs.declared.running.Step.TheVariants.{On, Over}
-use Rattle.mt_session.specs.Moves.{Blame, Move, Goes, Fails}
+use Rattle.mt_session.specs.declared.running.Step.TheVariants.{Accepted, Ended}
+use Rattle.mt_session.specs.Moves.{Fault, Move, Goes, Fails}
 use Rattle.mt_session.specs.Runs.{Run, run_from, cost_from, ended}
 use Rattle.mt_session.specs.Sessions.{AreTables, state_in}
 
@@ -31,26 +30,26 @@ abbrev pub reason_in : Option Refusal → Option Reason
 reason_in None = None
 reason_in (Some r) = Some (reason_of r)
 
-abbrev pub blame_of : Fault → Blame
-blame_of f = (reason_of f.refusal, f.at)
+abbrev pub fault_of : HeldFault → Fault
+fault_of f = (reason_of f.refusal, f.at)
 
-abbrev pub blame_in : Option Fault → Option Blame
-blame_in None = None
-blame_in (Some f) = Some (blame_of f)
+abbrev pub fault_in : Option HeldFault → Option Fault
+fault_in None = None
+fault_in (Some f) = Some (fault_of f)
 
 -- a unit was accepted, or refused
 pub record Accepts (m : Move) (new : Session) : Type 0 where
   pub left : ℕ
   pub is : m ≡ Goes (state_in new) left
 
-pub record Refuses (m : Move) (f : Fault) : Type 0 where
+pub record Refuses (m : Move) (f : HeldFault) : Type 0 where
   pub left : ℕ
-  pub is : m ≡ Fails (blame_of f) left
+  pub is : m ≡ Fails (fault_of f) left
 
 abbrev pub MovesAs : Move → Session → Session → Step → Type 0
-MovesAs m old new On = Accepts m new × AreTables new
-MovesAs m old new (Over None) = ⊥
-MovesAs m old new (Over (Some f)) = Refuses m f × (state_in new ≡ state_in old) × AreTables new
+MovesAs m old new Accepted = Accepts m new × AreTables new
+MovesAs m old new (Ended None) = ⊥
+MovesAs m old new (Ended (Some f)) = Refuses m f × (state_in new ≡ state_in old) × AreTables new
 
 -- at most n more units from a state
 abbrev pub run_on : Bytes → ℕ → Session → Run
@@ -66,14 +65,14 @@ pub record GoesOn (text : Bytes) (old new : Session) : Type 0 where
   pub count : new.units ≡ old.units + 1
 
 -- a unit was refused, or there is none
-pub record IsOver (text : Bytes) (old new : Session) (f : Option Fault) : Type 0 where
-  pub same : (n : ℕ) → run_on text (suc n) old ≡ ended (state_in new) (blame_in f)
+pub record IsOver (text : Bytes) (old new : Session) (f : Option HeldFault) : Type 0 where
+  pub same : (n : ℕ) → run_on text (suc n) old ≡ ended (state_in new) (fault_in f)
 
 abbrev pub StepIs : Bytes → Session → Session → Step → Type 0
-StepIs text old new On = GoesOn text old new
-StepIs text old new (Over f) = IsOver text old new f
+StepIs text old new Accepted = GoesOn text old new
+StepIs text old new (Ended f) = IsOver text old new f
 
 -- the count of steps before and after a unit
 abbrev pub CostIs : Bytes → Session → Session → ℕ → ℕ → Step → Type 0
-CostIs text old new before now On = (n : ℕ) → before + cost_on text (suc n) old ≡ now + cost_on text n new
-CostIs text old new before now (Over f) = (n : ℕ) → before + cost_on text (suc n) old ≡ now
+CostIs text old new before now Accepted = (n : ℕ) → before + cost_on text (suc n) old ≡ now + cost_on text n new
+CostIs text old new before now (Ended f) = (n : ℕ) → before + cost_on text (suc n) old ≡ now

@@ -4,9 +4,9 @@ use Rattle.mt_term.specs.Trees.{Tree, Bytes}
 use Rattle.mt_term.specs.Declarations.{Declaration, Definition, Environment}
 use Rattle.mt_term.specs.States.{Metavariable, Note, EntryNote, ConstraintNote}
 use Rattle.mt_term.specs.ScriptState.{Proof, State}
-use Rattle.mt_term.specs.SoundEnvironment.{with_entry}
-use Rattle.mt_term.specs.Charges.{Outcome, Done, Refused, Spent, Charged, give}
-use Rattle.mt_term.specs.KernelCheck.{check, check_type}
+use Rattle.mt_calculus.specs.SoundEnvironment.{with_entry}
+use Rattle.mt_rules.specs.Charges.{Outcome, Done, Refused, Spent, Charged, give}
+use Rattle.mt_rules.specs.KernelCheck.{check, check_type}
 use Rattle.mt_universe.specs.Graphs.{Universes, declared}
 
 pub data Task : Type 0 where

@@ -239,13 +239,13 @@ fn constrain(
     match graph.below().get(number) {
         None => Err(OutOfMemory),
         Some(pair) => {
-            env.names = copied(alloc, graph.names())?;
+            env.names = copy_names(alloc, graph.names())?;
             env.below.push(*pair)
         }
     }
 }
 
-fn copied(alloc: Global, names: &[Name]) -> Result<Names, OutOfMemory>
+fn copy_names(alloc: Global, names: &[Name]) -> Result<Names, OutOfMemory>
     ensures { IfOk result (λ copy. copy ≡ names.now) }
 {
     let mut copy = Names::new(alloc);

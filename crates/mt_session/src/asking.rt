@@ -34,13 +34,13 @@ use std::clone::Clone;
 ///
 /// `NotHere` where it is not built or may not stand there; then `Taken`, `Cycle`, `NoGoal`,
 /// `OpenMetas` and `Unbound` in the order written.
-pub fn asked(alloc: Global, session: &Session, at: usize, kind: &UnitKind) -> Result<Task, Halt>
+pub fn ask(alloc: Global, session: &Session, at: usize, kind: &UnitKind) -> Result<Task, Halt>
     requires tables { AreTables session.now }
     requires sound { SoundState (state_in session.now) }
     ensures { Resolves task_of (asked (state_in session.now) at (kind_of kind.now)) result }
 {
     if !is_built_kind(kind)? {
-        return Err(refused(Refusal::NotHere, at));
+        return Err(refusal_at(Refusal::NotHere, at));
     }
     match &session.proof {
         None => asked_by_command(alloc, session, at, kind),
@@ -48,7 +48,7 @@ pub fn asked(alloc: Global, session: &Session, at: usize, kind: &UnitKind) -> Re
     }
 }
 
-fn refused(refusal: Refusal, at: usize) -> Halt
+fn refusal_at(refusal: Refusal, at: usize) -> Halt
     ensures { result ≡ Halt.Refused (record { refusal = refusal; at = at }) }
 {
     Halt::Refused(Fault { refusal, at })
@@ -118,7 +118,7 @@ fn asked_by_command(
     match kind {
         UnitKind::Constraint(low, high) => asked_order(session.held.graph(), at, low, high),
         UnitKind::Theorem(name, ty) => asked_theorem(alloc, session, at, name, ty),
-        _ => Err(refused(Refusal::NotHere, at)),
+        _ => Err(refusal_at(Refusal::NotHere, at)),
     }
 }
 
@@ -144,7 +144,7 @@ fn check_fresh(session: &Session, name: &Name, at: usize) -> Result<(), Halt>
 {
     match session.names.find(name.as_bytes()) {
         None => Ok(()),
-        Some(_) => Err(refused(Refusal::Taken(name.clone()?), at)),
+        Some(_) => Err(refusal_at(Refusal::Taken(name.clone()?), at)),
     }
 }
 
@@ -161,8 +161,11 @@ fn asked_order(graph: &Graph, at: usize, low: &Name, high: &Name) -> Result<Task
 {
     match tried_order(graph, low, high) {
         Ok(()) => Ok(Task::Order(low.clone()?, high.clone()?)),
-        Err(GraphStop::TooMany) => Err(refused(Refusal::Taken(extra_name(graph, low, high)?), at)),
-        Err(GraphStop::Cycle) => Err(refused(Refusal::Cycle, at)),
+        Err(GraphStop::TooMany) => Err(refusal_at(
+            Refusal::Taken(extra_name(graph, low, high)?),
+            at,
+        )),
+        Err(GraphStop::Cycle) => Err(refusal_at(Refusal::Cycle, at)),
         Err(GraphStop::OutOfMemory) => Err(Halt::OutOfMemory),
     }
 }
@@ -202,8 +205,8 @@ fn asked_by_proof(
 {
     match kind {
         UnitKind::Step(step) => asked_by_step(alloc, session, begun, at, step),
-        UnitKind::Qed => finished(alloc, session, begun, at),
-        _ => Err(refused(Refusal::NotHere, at)),
+        UnitKind::Qed => end_of_proof(alloc, session, begun, at),
+        _ => Err(refusal_at(Refusal::NotHere, at)),
     }
 }
 
@@ -220,7 +223,7 @@ fn asked_by_step(
     match step {
         Tiny::Action(action) => asked_by_deed(alloc, session, begun, at, &action.shape),
         Tiny::Dot => Ok(Task::Rest),
-        _ => Err(refused(Refusal::NotHere, at)),
+        _ => Err(refusal_at(Refusal::NotHere, at)),
     }
 }
 
@@ -236,7 +239,7 @@ fn asked_by_deed(
 {
     match deed {
         ActionShape::Exact(term) => closed_by(alloc, session, begun, at, term),
-        _ => Err(refused(Refusal::NotHere, at)),
+        _ => Err(refusal_at(Refusal::NotHere, at)),
     }
 }
 
@@ -253,7 +256,7 @@ fn closed_by(
         Resolves task_of (closed_by (state_in session.now) p at p.goals (written_of term.now)) result }
 {
     match &begun.body {
-        Some(_) => Err(refused(Refusal::NoGoal, at)),
+        Some(_) => Err(refusal_at(Refusal::NoGoal, at)),
         None => {
             let term = closed_term(alloc, session, term)?;
             let ty = copy(alloc, &begun.ty)?;
@@ -263,14 +266,19 @@ fn closed_by(
 }
 
 // The proof as an entry, where its goal is closed.
-fn finished(alloc: Global, session: &Session, begun: &OpenProof, at: usize) -> Result<Task, Halt>
+fn end_of_proof(
+    alloc: Global,
+    session: &Session,
+    begun: &OpenProof,
+    at: usize,
+) -> Result<Task, Halt>
     requires sound { SoundState (state_in session.now) }
     requires begun { session.now.proof ≡ Some begun.now }
     ensures { let p = opened (length session.now.metas) begun.now in
         Resolves task_of (finished (state_in session.now) p at p.goals) result }
 {
     match &begun.body {
-        None => Err(refused(Refusal::OpenMetas, at)),
+        None => Err(refusal_at(Refusal::OpenMetas, at)),
         Some(term) => {
             let name = begun.name.clone()?;
             let ty = copy(alloc, &begun.ty)?;

@@ -37,12 +37,12 @@ pub fn take_entry<L: Ledger>(
     match declare(alloc, session, unit, steps) {
         Ok(entry) => {
             enter(alloc, session, unit.span.end, entry)?;
-            Ok(Step::On)
+            Ok(Step::Accepted)
         }
-        Err(Halt::Refused(fault)) => Ok(Step::Over(Some(fault))),
+        Err(Halt::Refused(fault)) => Ok(Step::Ended(Some(fault))),
         Err(Halt::Spent) => {
             let at = unit.span.start;
-            Ok(Step::Over(Some(Fault {
+            Ok(Step::Ended(Some(Fault {
                 refusal: Refusal::Spent,
                 at,
             })))

@@ -4,7 +4,7 @@ ghost use Rattle.mt_term.specs.StateOf.{state_of};
 ghost use Rattle.mt_session.specs.Output.{reply, run_text, state_text};
 ghost use Rattle.mt_session.specs.Runs.{ended, is_clean};
 ghost use Rattle.mt_session.specs.Sessions.{state_in};
-ghost use Rattle.mt_session.specs.Steps.{blame_in};
+ghost use Rattle.mt_session.specs.Steps.{fault_in};
 
 use crate::replying::{put, put_no, put_ok, put_place};
 use crate::sessions::Session;
@@ -26,8 +26,8 @@ pub fn report_on(
     session: Session,
     fault: &Option<Fault>,
 ) -> Result<Report, OutOfMemory>
-    ensures text { IfOk result (λ r. r.text.items ≡ run_text text.now (ended (state_in session) (blame_in fault.now))) }
-    ensures clean { IfOk result (λ r. r.clean ≡ is_clean (ended (state_in session) (blame_in fault.now))) }
+    ensures text { IfOk result (λ r. r.text.items ≡ run_text text.now (ended (state_in session) (fault_in fault.now))) }
+    ensures clean { IfOk result (λ r. r.clean ≡ is_clean (ended (state_in session) (fault_in fault.now))) }
 {
     let state = session.into_plain(alloc)?;
     let mut out = Vec::new(alloc);
@@ -39,7 +39,7 @@ pub fn report_on(
 
 // Nothing was refused, and no proof is open.
 fn is_clean(state: &PlainState, fault: &Option<Fault>) -> bool
-    ensures { result ≡ is_clean (ended (state_of state.now) (blame_in fault.now)) }
+    ensures { result ≡ is_clean (ended (state_of state.now) (fault_in fault.now)) }
 {
     fault.is_none() && state.proof.is_none()
 }
@@ -52,7 +52,7 @@ fn put_reply(
     state: &PlainState,
     fault: &Option<Fault>,
 ) -> Result<(), OutOfMemory>
-    ensures { OnOk result (out.new.items ≡ out.old.items ++ reply text.now (state_of state.now) (blame_in fault.now)) }
+    ensures { OnOk result (out.new.items ≡ out.old.items ++ reply text.now (state_of state.now) (fault_in fault.now)) }
 {
     match fault {
         None => put_ok(alloc, out, state.units, state.place),

@@ -9,11 +9,11 @@ ghost use Rattle.mt_session.specs.Plans.{declares, takes_charge};
 ghost use Rattle.mt_session.specs.Ready.{SoundState, IsTaskOf};
 ghost use Rattle.mt_session.specs.Runs.{cost, empty_state, ended, is_clean, run};
 ghost use Rattle.mt_session.specs.Sessions.{AreTables, IsReady, state_in, task_of};
-ghost use Rattle.mt_session.specs.Steps.{CostIs, MovesAs, StepIs, blame_in, cost_on};
+ghost use Rattle.mt_session.specs.Steps.{CostIs, MovesAs, StepIs, fault_in, cost_on};
 ghost use Rattle.mt_session.specs.Tasks.{judged};
 
 use crate::applying::apply;
-use crate::asking::{asked, declares, takes_charge};
+use crate::asking::{ask, declares, takes_charge};
 use crate::declaring::take_entry;
 use crate::judging::judge;
 use crate::reporting::{Report, report_on};
@@ -30,8 +30,8 @@ pub(crate) const ALLOWANCE: u64 = 100_000;
 /// Whether a run goes on after a unit, or with what fault it is over, if there is one.
 #[derive(Drop)]
 pub enum Step {
-    On,
-    Over(Option<Fault>),
+    Accepted,
+    Ended(Option<Fault>),
 }
 
 /// Runs a script from the empty state.
@@ -59,14 +59,14 @@ fn advance<L: Ledger>(
 ) -> Result<Option<Fault>, OutOfMemory>
     requires state { state_in session.old ≡ empty_state }
     requires tables { AreTables session.old }
-    ensures run { IfOk result (λ f. run text.now ≡ ended (state_in session.new) (blame_in f)) }
+    ensures run { IfOk result (λ f. run text.now ≡ ended (state_in session.new) (fault_in f)) }
     ensures cost { OnOk result (steps.new ≡ steps.old + cost text.now) }
     ensures wanting { OnErr result (steps.new ≤ steps.old + cost text.now) }
 {
     'units: loop {
         match take_unit(alloc, text, session, steps)? {
-            Step::On => {}
-            Step::Over(fault) => return Ok(fault),
+            Step::Accepted => {}
+            Step::Ended(fault) => return Ok(fault),
         }
     }
 }
@@ -85,9 +85,9 @@ fn take_unit<L: Ledger>(
     ensures wanting { OnErr result ((n : ℕ) → steps.new ≤ steps.old + cost_on text.now (suc n) session.old) }
 {
     match unit_at(alloc, text, session.place) {
-        Ok(Parsed::End) => Ok(Step::Over(None)),
+        Ok(Parsed::End) => Ok(Step::Ended(None)),
         Ok(Parsed::Unit(unit)) => take(alloc, session, &unit, steps),
-        Err(Halt::Refused(fault)) => Ok(Step::Over(Some(fault))),
+        Err(Halt::Refused(fault)) => Ok(Step::Ended(Some(fault))),
         Err(_) => Err(OutOfMemory),
     }
 }
@@ -130,9 +130,9 @@ fn take_asked<L: Ledger>(
 {
     let allowance = pay(session, &unit.kind, steps)?;
     let start = unit.span.start;
-    match asked(alloc, session, start, &unit.kind) {
+    match ask(alloc, session, start, &unit.kind) {
         Ok(task) => settle(alloc, session, start, unit.span.end, task, allowance, steps),
-        Err(Halt::Refused(fault)) => Ok(Step::Over(Some(fault))),
+        Err(Halt::Refused(fault)) => Ok(Step::Ended(Some(fault))),
         Err(_) => Err(OutOfMemory),
     }
 }
@@ -176,8 +176,8 @@ fn settle<L: Ledger>(
     match judge(alloc, &session.env, &task, allowance, steps)? {
         None => {
             apply(alloc, session, end, task)?;
-            Ok(Step::On)
+            Ok(Step::Accepted)
         }
-        Some(refusal) => Ok(Step::Over(Some(Fault { refusal, at: start }))),
+        Some(refusal) => Ok(Step::Ended(Some(Fault { refusal, at: start }))),
     }
 }

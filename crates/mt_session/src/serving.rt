@@ -3,7 +3,9 @@ ghost use Rattle.std.specs.Prelude.{◌≡◌, ◌+◌, ◌<◌, ◌≤◌, ◌�
 ghost use Rattle.std.specs.Io.KnownBytes.{Appends, Keeps};
 ghost use Rattle.std.specs.Str.{is_utf8};
 ghost use Rattle.mt_text.specs.Causes.{Rose, AppendsPrefix};
-ghost use Rattle.mt_term.specs.Derivable.{Derivable};
+ghost use Rattle.mt_env.specs.Names.{Distinct};
+ghost use Rattle.mt_calculus.specs.Derivable.{Derivable};
+ghost use Rattle.mt_term.specs.Naming.{naming};
 ghost use Rattle.mt_session.specs.declared.serving.ReadStop.TheVariants.{OutOfMemory};
 ghost use Rattle.mt_session.specs.Output.{output_of, status_of, charges_of, most};
 ghost use Rattle.mt_session.specs.Runs.{empty_state, run_from};
@@ -78,13 +80,18 @@ pub fn serve<I: Source, O: Sink, L: Ledger>(
     ensures nothing { result ≡ Status.ReadFault → Keeps (O.got output.old) (O.got output.new) }
     ensures given { result ≡ Status.ReadFault → GivesAtMost most (I.left input.old) (I.left input.new) }
 
-    // Where the source tells its bytes, a whole run has taken the steps that its units cost, and any other has taken no more.
+    // Where the source tells its bytes, a whole run has taken the steps that its units cost, and
+    // any other has taken no more.
     ensures charges { IsWhole result → IfSome (I.left input.old) (λ bytes. steps.new ≡ steps.old + charges_of bytes) }
     ensures at_most { IfSome (I.left input.old) (λ bytes. steps.new ≤ steps.old + charges_of bytes) }
     ensures uncharged { IsUnread result → steps.new ≡ steps.old }
 
     // Each state of the run is derivable.
     ensures sound { IfSome (I.left input.old) (λ bytes. (n : ℕ) → Derivable (run_from bytes n empty_state).state) }
+
+    // In each state of the run no two entries or constructors have one name.
+    ensures names { IfSome (I.left input.old) (λ bytes. (n : ℕ) →
+        Distinct (naming (run_from bytes n empty_state).state.env.entries)) }
 
     // A fault comes only from its device.
     ensures read { result ≡ Status.ReadFault → Rose (I.faults input.old) (I.faults input.new) }
@@ -117,13 +124,13 @@ fn answer<O: Sink, L: Ledger>(
     ensures write { result ≡ Status.WriteFault → Rose (O.faults output.old) (O.faults output.new) }
 {
     match str::from_utf8(script) {
-        Ok(text) => reported(alloc, text, output, steps),
+        Ok(text) => report(alloc, text, output, steps),
         Err(_) => Status::BadFrame,
     }
 }
 
 // Runs a text and writes what came of it.
-fn reported<O: Sink, L: Ledger>(
+fn report<O: Sink, L: Ledger>(
     alloc: Global,
     text: &str,
     output: &mut O,
@@ -138,13 +145,13 @@ fn reported<O: Sink, L: Ledger>(
     ensures write { result ≡ Status.WriteFault → Rose (O.faults output.old) (O.faults output.new) }
 {
     match run_script(alloc, text, steps) {
-        Ok(report) => written(&report, output),
+        Ok(report) => write_report(&report, output),
         Err(_) => Status::OutOfMemory,
     }
 }
 
 // Writes what came of a run.
-fn written<O: Sink>(report: &Report, output: &mut O) -> Status
+fn write_report<O: Sink>(report: &Report, output: &mut O) -> Status
     ensures which { IsAnswer result }
     ensures whole { IsWhole result → (result ≡ (if report.now.clean then Status.Done else Status.Refused))
         × Appends (O.got output.old) (O.got output.new) report.now.text.items }

@@ -22,8 +22,9 @@ pub struct OpenProof {
     pub body: Option<Term>,
 }
 
-/// The state of a run. `metas` are the metavariables of earlier proofs: that of the open proof comes
-/// after them. `names` are the names of the environment, and `held` is the environment in `pool`.
+/// The state of a run. `metas` are the metavariables of earlier proofs: that of the open proof
+/// comes after them. `names` are the names of the environment, and `held` is the environment in
+/// `pool`.
 #[derive(Drop)]
 pub struct Session {
     pub env: PlainEnv,

@@ -4,7 +4,7 @@ use Rattle.std.proofs.Common.{◌∙◌, ap, sym, subst}
 use Rattle.mt_term.specs.Trees.{Tree}
 use Rattle.mt_term.specs.Declarations.{Declaration, Environment}
 use Rattle.mt_term.specs.Naming.{Naming}
-use Rattle.mt_term.specs.SoundEnvironment.{with_entry}
+use Rattle.mt_calculus.specs.SoundEnvironment.{with_entry}
 use Rattle.mt_pool.specs.Region.{Kept}
 use Rattle.mt_pool.specs.declared.held.Held.{Held}
 use Rattle.mt_pool.specs.HeldOf.{declaration_in, HeldBelow}

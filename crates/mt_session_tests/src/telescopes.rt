@@ -1,10 +1,10 @@
 // Terms closed over contexts; the laws.
 
 use mt_decl::{
-    Telescope, abstracted, declared_by_allowance, declared_is_sound, declared_keeps_names_distinct,
-    generalized, result_sort,
+    Telescope, abstraction_over, declared_by_allowance, declared_is_sound,
+    declared_keeps_names_distinct, generalization_over, result_sort,
 };
-use mt_term::{MOST_DEEP, Name, OutOfMemory, Sort, Term, alike};
+use mt_term::{MAX_DEPTH, Name, OutOfMemory, Sort, Term, alike};
 use std::alloc::Global;
 use std::test::Fail;
 
@@ -41,10 +41,10 @@ fn closed_terms(rt: HostRuntime) -> Result<(), Fail> {
     let empty = Telescope::Empty;
     let one = Telescope::More(&name, &older, &empty);
     let two = Telescope::More(&name, &newer, &one);
-    let term = abstracted(alloc, &two, Term::Var(0), MOST_DEEP)?;
+    let term = abstraction_over(alloc, &two, Term::Var(0), MAX_DEPTH)?;
     let wanted = lam(alloc, prop(), lam(alloc, Term::Var(0), Term::Var(0))?)?;
     assert_eq!(rt; alike(&term, &wanted), true);
-    let ty = generalized(alloc, &two, Term::Var(1), MOST_DEEP)?;
+    let ty = generalization_over(alloc, &two, Term::Var(1), MAX_DEPTH)?;
     let wanted = prod(alloc, prop(), prod(alloc, Term::Var(0), Term::Var(1))?)?;
     assert_eq!(rt; alike(&ty, &wanted), true);
     Ok(())
@@ -54,8 +54,8 @@ fn closed_terms(rt: HostRuntime) -> Result<(), Fail> {
 fn ends_of_arities(rt: HostRuntime) -> Result<(), Fail> {
     let alloc = rt.alloc();
     let arity = prod(alloc, Term::Const(0), prod(alloc, Term::Var(0), prop())?)?;
-    assert_eq!(rt; result_sort(&arity, MOST_DEEP)?.is_some(), true);
+    assert_eq!(rt; result_sort(&arity, MAX_DEPTH)?.is_some(), true);
     let none = prod(alloc, Term::Const(0), Term::Var(0))?;
-    assert_eq!(rt; result_sort(&none, MOST_DEEP)?.is_some(), false);
+    assert_eq!(rt; result_sort(&none, MAX_DEPTH)?.is_some(), false);
     Ok(())
 }

@@ -4,7 +4,7 @@ ghost use Rattle.mt_env.specs.Environments.{environment_in, EntriesBelow};
 ghost use Rattle.mt_resolver.specs.TableOf.{AreNamesOf};
 ghost use Rattle.mt_term.specs.EntryOf.{declaration_of};
 ghost use Rattle.mt_term.specs.EnvironmentOf.{environment_of};
-ghost use Rattle.mt_term.specs.SoundEnvironment.{with_entry};
+ghost use Rattle.mt_calculus.specs.SoundEnvironment.{with_entry};
 
 use mt_decl::declare_plain;
 use mt_env::{Env, EnvStop};

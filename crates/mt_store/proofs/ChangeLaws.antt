@@ -2,11 +2,10 @@
 use Rattle.std.proofs.Common.{◌≡◌, ◌≢◌, ℕ, List, [], slice_get, Some, None, refl, sym, ap, subst, ◌∙◌, ◌⊎◌, inl, inr}
 use Rattle.std.proofs.lemmas.Bool.Decides.{eqb_tells}
 use Rattle.mt_term.specs.Trees.{Tree}
-use Rattle.mt_term.specs.Stores.{Declared, Store, AllMetas, AllMetasHeld, InStore, Owned, Acyclic, Mentions, MentionsHeld, by_context, by_type, by_body, Reached, at_once, onward, Reaches, Below, Kept, Extends}
-use Rattle.mt_term.specs.StoreLaws.{Puts, with_body}
-use Rattle.mt_term.proofs.Agree.{weaker, weaker_of}
-use Rattle.mt_term.proofs.Images.{none_some, some_inj}
-use Rattle.mt_term.proofs.ReachLaws.{held_of_all}
+use Rattle.mt_term.specs.Stores.{Declared, Store, AllMetas, AllMetasHeld, InStore, Owned, Acyclic, Mentions, MentionsHeld, by_context, by_type, by_body, Reached, at_once, onward, Reaches, Below}
+use Rattle.mt_term.specs.StoreChanges.{Kept, Extends, Puts, with_body}
+use Rattle.mt_term.proofs.Options.{none_some, some_inj}
+use Rattle.mt_term.proofs.ReachLaws.{held_of_all, weaker, weaker_of}
 use Rattle.mt_store.specs.declared.metavariables.HeldMeta.{HeldMeta}
 use Rattle.mt_store.specs.Held.{store_in, IsProper}
 use Rattle.mt_store.proofs.HeldLaws.{store_none}

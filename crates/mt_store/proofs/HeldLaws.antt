@@ -7,9 +7,8 @@ use Rattle.mt_term.specs.Trees.{Tree}
 use Rattle.mt_term.specs.Declarations.{Hypothesis}
 use Rattle.mt_term.specs.Instancing.{assigned_body}
 use Rattle.mt_term.specs.States.{Metavariable, meta_context, meta_type, meta_with_body, is_open}
-use Rattle.mt_term.specs.StoreLaws.{Puts, with_body}
-use Rattle.mt_term.specs.Stores.{Declared, store_of, types_of}
-use Rattle.mt_term.specs.WeakHead.{body_of}
+use Rattle.mt_term.specs.StoreChanges.{Puts, with_body}
+use Rattle.mt_term.specs.Stores.{Declared, store_of, types_of, body_of}
 use Rattle.mt_pool.specs.declared.nodes.TermId.{TermId}
 use Rattle.mt_pool.specs.declared.contexts.HeldHyp.{HeldHyp}
 use Rattle.mt_pool.specs.HeldOf.{hypotheses_in, ContextBelow}

@@ -17,7 +17,8 @@ body_in p (Some t) = Some (tree_at p t)
 
 -- a metavariable as the pool says it
 abbrev pub metavariable_in : List Tree → HeldMeta → Metavariable
-metavariable_in p m = record { context = hypotheses_in p m.context; ty = tree_at p m.ty; body = body_in p m.body }
+metavariable_in p m =
+    record { context = hypotheses_in p m.context; ty = tree_at p m.ty; body = body_in p m.body }
 
 -- a metavariable as judgements see it
 abbrev pub declared_in : List Tree → HeldMeta → Declared

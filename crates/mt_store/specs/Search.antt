@@ -1,9 +1,11 @@
 -- What a search through terms and metavariables finds.
-use Rattle.std.specs.Prelude.{ℕ, ◌≡◌, ◌==◌, Bool, false, List, [], ◌∷◌, ◌++◌, map, Option, Some, None, slice_get, ◌⊎◌}
+use Rattle.std.specs.Prelude.{ℕ, ◌≡◌, ◌==◌, Bool, false, List, [], ◌∷◌, ◌++◌, map, Option, Some}
+use Rattle.std.specs.Prelude.{None, slice_get, ◌⊎◌}
 use Rattle.mt_term.specs.Trees.{Bytes}
 use Rattle.mt_pool.specs.declared.nodes.TermId.{TermId}
 use Rattle.mt_pool.specs.declared.nodes.Node.{Node}
-use Rattle.mt_pool.specs.declared.nodes.Node.TheVariants.{Var, Sort, Prod, Lam, App, Const, Ind, Con, Match, Meta}
+use Rattle.mt_pool.specs.declared.nodes.Node.TheVariants.{Var, Sort, Prod, Lam, App, Const, Ind}
+use Rattle.mt_pool.specs.declared.nodes.Node.TheVariants.{Con, Match, Meta}
 use Rattle.mt_pool.specs.declared.contexts.HeldHyp.{HeldHyp}
 use Rattle.mt_pool.specs.Region.{ids_of, branches_of}
 use Rattle.mt_store.specs.declared.metavariables.HeldMeta.{HeldMeta}
@@ -21,7 +23,8 @@ abbrev pub AreFound : List TermId → List TermId → Type 0
 AreFound ks [] = Unit {0}
 AreFound ks (j ∷ js) = IsFound ks j × AreFound ks js
 
--- With these ids: all of them are found, and after those that were found before stands none but these.
+-- With these ids: all of them are found, and after those that were found before stands none but
+-- these.
 pub record Adds (old new ids : List TermId) : Type 0 where
   pub found : AreFound new ids
   pub more : List TermId

@@ -1,5 +1,5 @@
 // Ids that a search has found.
-ghost use Rattle.std.specs.Prelude.{◌≡◌, [], ◌∷◌, slice_get, OnOk};
+ghost use Rattle.std.specs.Prelude.{◌≡◌, ◌<◌, [], ◌∷◌, slice_get, OnOk, IfSome};
 ghost use Rattle.mt_pool.specs.Region.{branches_of, ids_of};
 ghost use Rattle.mt_store.specs.Search.{Adds, bodies_of, body_ids, held_ids, types_held};
 
@@ -36,10 +36,12 @@ impl Found {
         }
     }
 
-    /// The id at a place.
+    /// The id at a place. A list is never so long that its last place has none after it.
     pub(crate) fn get(&self, at: usize) -> Option<TermId>
-        ensures { result ≡ slice_get self.now at }
+        ensures is { result ≡ slice_get self.now at }
+        ensures small { IfSome result (λ _. at < usize.MAX) }
     {
+        let _count = self.places.len();
         match self.places.get_index(at) {
             Some(at) => Some(TermId { at: *at }),
             None => None,
@@ -54,34 +56,39 @@ impl Found {
         Ok(())
     }
 
-    /// Adds the ids of a metavariable's terms. More than `deep` of them count as want of memory.
-    pub(crate) fn insert_terms(&mut self, ids: &TermIds, deep: usize) -> Result<(), OutOfMemory>
+    /// Adds the ids of a metavariable's terms. More than `depth_left` of them count as want of
+    /// memory.
+    pub(crate) fn insert_terms(
+        &mut self,
+        ids: &TermIds,
+        depth_left: usize,
+    ) -> Result<(), OutOfMemory>
         ensures { OnOk result (Adds self.old self.new (ids_of ids.now)) }
     {
-        let deep = deeper(deep)?;
+        let depth_left = deeper(depth_left)?;
         match ids {
             TermIds::End => Ok(()),
             TermIds::Item(id, ids) => {
                 self.insert(*id)?;
-                self.insert_terms(ids, deep)
+                self.insert_terms(ids, depth_left)
             }
         }
     }
 
-    /// Adds the bodies of branches. More than `deep` of them count as want of memory.
+    /// Adds the bodies of branches. More than `depth_left` of them count as want of memory.
     pub(crate) fn insert_bodies(
         &mut self,
         branches: &BranchIds,
-        deep: usize,
+        depth_left: usize,
     ) -> Result<(), OutOfMemory>
         ensures { OnOk result (Adds self.old self.new (bodies_of (branches_of branches.now))) }
     {
-        let deep = deeper(deep)?;
+        let depth_left = deeper(depth_left)?;
         match branches {
             BranchIds::End => Ok(()),
             BranchIds::Item(_, body, branches) => {
                 self.insert(*body)?;
-                self.insert_bodies(branches, deep)
+                self.insert_bodies(branches, depth_left)
             }
         }
     }

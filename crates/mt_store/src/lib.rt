@@ -1,4 +1,5 @@
-//! Stores of metavariables held in a pool: their contexts, types and bodies by number, and what a term reaches.
+//! Stores of metavariables held in a pool: their contexts, types and bodies by number, and what a
+//! term reaches.
 #![tactic(auto)]
 
 mod found;

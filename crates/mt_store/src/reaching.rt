@@ -9,7 +9,7 @@ ghost use Rattle.mt_store.specs.Search.{ids_at, is_meta, next_ids, Adds};
 use crate::found::Found;
 use crate::stores::Store;
 use mt_pool::{Node, Pool, TermId};
-use mt_term::{MOST_DEEP, OutOfMemory};
+use mt_term::{MAX_DEPTH, OutOfMemory};
 use std::alloc::Global;
 
 impl Store {
@@ -41,20 +41,21 @@ impl Store {
             Node::Match(_, r, c, branches) => {
                 found.insert(*r)?;
                 found.insert(*c)?;
-                found.insert_bodies(branches, MOST_DEEP)?;
+                found.insert_bodies(branches, MAX_DEPTH)?;
             }
             Node::Meta(m, terms) => {
                 if *m == n {
                     return Ok(true);
                 }
-                found.insert_terms(terms, MOST_DEEP)?;
+                found.insert_terms(terms, MAX_DEPTH)?;
                 self.expand_meta(*m, found)?;
             }
         }
         Ok(false)
     }
 
-    /// Whether metavariable `n` stands in the term, or is reached through the context, type or body of a metavariable in it.
+    /// Whether metavariable `n` stands in the term, or is reached through the context, type or body
+    /// of a metavariable in it.
     pub fn reaches(
         &mut self,
         alloc: Global,
@@ -69,15 +70,13 @@ impl Store {
     {
         let mut found = Found::new(alloc);
         found.insert(t)?;
-        // A list is never so long: the loop ends where all that was found is expanded.
-        for at in 0..usize::MAX {
-            let Some(id) = found.get(at) else {
-                return Ok(false);
-            };
+        let mut at = 0;
+        'search: while let Some(id) = found.get(at) {
             if self.expand(pool.node(id), n, &mut found)? {
                 return Ok(true);
             }
+            at += 1;
         }
-        Err(OutOfMemory)
+        Ok(false)
     }
 }

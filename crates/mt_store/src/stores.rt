@@ -3,10 +3,9 @@ ghost use Rattle.std.specs.Prelude.{◌≡◌, ◌<◌, [], ◌∷◌, ◌++◌,
 ghost use Rattle.mt_term.specs.Instancing.{assigned_body};
 ghost use Rattle.mt_term.specs.Seen.{seen};
 ghost use Rattle.mt_term.specs.States.{Metavariable, is_open, meta_context, meta_type, meta_with_body};
-ghost use Rattle.mt_term.specs.StoreLaws.{Puts, with_body};
-ghost use Rattle.mt_term.specs.Stores.{types_of, AllMetas, AllMetasHeld, Declared, Extends, InStore, Reaches};
+ghost use Rattle.mt_term.specs.Stores.{types_of, AllMetas, AllMetasHeld, Declared, InStore, Reaches, body_of};
+ghost use Rattle.mt_term.specs.StoreChanges.{Extends, Puts, with_body};
 ghost use Rattle.mt_term.specs.Trees.{Tree};
-ghost use Rattle.mt_term.specs.WeakHead.{body_of};
 ghost use Rattle.mt_pool.specs.HeldOf.{hypotheses_in, ContextBelow};
 ghost use Rattle.mt_pool.specs.Region.{tree_at};
 ghost use Rattle.mt_store.specs.Held.{assigned, body_in, context_held, context_of, metas_in, metavariable_in, new_meta, new_in, store_in, type_held, type_of, BodyBelow, IsOpen, IsProper, StoreBelow};
@@ -48,7 +47,7 @@ impl Store {
         ensures { IfOk result (λ s. s ≡ self.now) }
     {
         Ok(Store {
-            metas: copied(alloc, &self.metas)?,
+            metas: copy_metavariables(alloc, &self.metas)?,
         })
     }
 
@@ -98,7 +97,8 @@ impl Store {
         self.meta(n).ty
     }
 
-    /// The body of a metavariable. There is none exactly where no such metavariable is there, or it is open.
+    /// The body of a metavariable. There is none exactly where no such metavariable is there, or it
+    /// is open.
     #[tactic(auto, using(crate::proofs::HeldLaws::lookups))]
     pub fn body(&self, n: usize) -> Option<TermId>
         ensures metas { (p : List Tree) → body_in p result ≡ assigned_body (slice_get (metas_in p self.now) n) }
@@ -193,7 +193,7 @@ impl Store {
     }
 }
 
-fn copied(alloc: Global, metas: &[HeldMeta]) -> Result<Vec<HeldMeta>, OutOfMemory>
+fn copy_metavariables(alloc: Global, metas: &[HeldMeta]) -> Result<Vec<HeldMeta>, OutOfMemory>
     ensures { IfOk result (λ copied. copied.items ≡ metas.now) }
 {
     let mut copied = Vec::new(alloc);

@@ -80,7 +80,8 @@ fn nat(rt: &impl Abort, alloc: Global) -> Entry {
     }
 }
 
-// `let rec f (n:nat) on n : nat ≝ match n return λ_:nat.nat with [ O ⇒ n | S p ⇒ f p ].`, or a generated principle like it.
+// `let rec f (n:nat) on n : nat ≝ match n return λ_:nat.nat with [ O ⇒ n | S p ⇒ f p ].`, or a
+// generated principle like it.
 fn recursive(rt: &impl Abort, alloc: Global, made: bool) -> Entry {
     let call = app(rt, alloc, Term::Const(1), Term::Var(0));
     let arms = branch(rt, alloc, &["p"], call, Branches::End);

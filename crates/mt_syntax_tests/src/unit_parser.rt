@@ -183,7 +183,8 @@ fn first_constructor(types: &RawTypes) -> (usize, usize, usize) {
     (types.len(), ty.cons.len(), at)
 }
 
-// How many functions, how many groups of the first, and the place of the type of the first of these.
+// How many functions, how many groups of the first, and the place of the type of the first of
+// these.
 fn first_group(functions: &RawFunctions) -> (usize, usize, usize) {
     let Some(function) = functions.get(0) else {
         return (0, 0, 0);

@@ -1,2 +1,5 @@
 pub mod Tacticals
 pub mod TacticalOf
+pub mod Meaning
+pub mod Tinycals
+pub mod BlockAnswers

@@ -1,7 +1,12 @@
 //! Closed tacticals: structured proof steps as trees, with the places of their signs.
 #![tactic(auto)]
 
+mod blocks;
+mod stops;
+
+pub use blocks::{MAX_DEPTH, run_block};
 use mt_tiny::Goals;
+pub use stops::BlockStop;
 
 /// The items of a closed tactical in the order written. An empty item leaves nothing.
 #[derive(Drop)]
@@ -11,7 +16,8 @@ pub enum Tactical<T> {
     Item(Box<TacItem<T>>, Box<Tactical<T>>),
 }
 
-/// An item of a closed tactical, with the places of its action or signs. `dot` tells whether the first sign after `focus` is `.`.
+/// An item of a closed tactical, with the places of its action or signs. `dot` tells whether the
+/// first sign after `focus` is `.`.
 #[derive(Drop)]
 #[cycle(tactical)]
 pub enum TacItem<T> {

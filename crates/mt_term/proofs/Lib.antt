@@ -1,55 +1,9 @@
 pub mod UniverseAtoms
 pub mod UniverseFormLaws
 pub mod UniverseNormalLaws
-pub mod UniverseOrderLaws
 mod UniverseExamples
-mod CostExamples
-pub mod Charged
-pub mod KnotLaws
-pub mod WeakHeadLaws
 pub mod Subst
 pub mod Passed
-pub mod Steps
-pub mod Moves
-pub mod Agree
-pub mod Images
-pub mod Follow
-pub mod Known
-pub mod Renames
-pub mod Substs
-pub mod Laws
-pub mod Grow
-pub mod Plain
-pub mod ComparisonLaws
-pub mod InferenceLaws
-pub mod Matching
-pub mod AlikeLaws
-pub mod EnvironmentLaws
-pub mod WeakHeadRules
-pub mod ComparisonRules
-pub mod ComparisonApart
-pub mod DerivationLaws
-pub mod Exchange
-pub mod Trace
-pub mod Instance
-pub mod Below
-pub mod Extend
-pub mod Declare
-pub mod InferenceRules
-pub mod Yields
-pub mod MetaLaws
-pub mod WeakHeadSoundness
 pub mod ReachLaws
-pub mod SoundStoreLaws
-pub mod ComparisonSoundness
-pub mod InstanceLaws
-pub mod InferenceParts
-pub mod InferenceSoundness
-pub mod StoreSteps
-pub mod ReductionTheorems
-pub mod PlaceLaws
-pub mod NormalRules
-pub mod AllowanceTheorem
-mod CalculusExamples
 mod TermExamples
-pub mod UnfoldLaws
+pub mod Options

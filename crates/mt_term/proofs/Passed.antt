@@ -3,7 +3,8 @@ use Rattle.std.proofs.Common.{length, arith, [], ◌∷◌, ◌≡◌, ℕ, zero
 use Rattle.std.proofs.lemmas.Bool.Decides.{leb_tells}
 use mathlib.Core.Path.{fun_ext}
 use Rattle.mt_term.specs.Trees.{Tree, Trees, Arms, Bytes, Var, Sort, Prod, Lam, App, Const, Ind, Con, Match, Meta, End, Item, NoArm, Arm}
-use Rattle.mt_term.specs.Substitution.{up_ren, up_rens, ren, ren_all, ren_arms, raise, lift, then_as, up, ups, tr_all, tr_arms, sub, fill, beyond, under, put, substitute}
+use Rattle.mt_term.specs.Substitution.{up_ren, up_rens, ren, ren_all, ren_arms, then_as, up, ups, tr_all, tr_arms, sub, fill, beyond, under}
+use Rattle.mt_term.specs.Lifting.{raise, lift, put, substitute}
 use Rattle.mt_term.specs.Passing.{lift_past, lift_past_all, lift_past_arms, sub_past, sub_past_all, sub_past_arms}
 use Rattle.mt_term.proofs.Subst.{ren_sub, ren_ren, sub_id}
 

@@ -4,8 +4,20 @@ use Rattle.std.proofs.lemmas.Bool.Decides.{Decides-or, Decides-eqb}
 use Rattle.std.specs.Bool.{Decides}
 use Rattle.mt_term.specs.Trees.{Tree, Trees, Arms, Var, Sort, Prod, Lam, App, Const, Ind, Con, Match, Meta, End, Item, NoArm, Arm}
 use Rattle.mt_term.specs.Stores.{Declared, Store, AllMetas, AllMetasIn, AllMetasArms, AllMetasOf, AllMetasHeld, Mentions, MentionsIn, MentionsArms, MentionsOf, MentionsHeld, by_context, by_type, by_body, at_once, onward, Below}
-use Rattle.mt_term.proofs.Images.{none_some, some_inj}
-use Rattle.mt_term.proofs.Below.{RankedAll, either}
+use Rattle.mt_term.proofs.Options.{none_some, some_inj}
+
+-- a number that falls from each metavariable to those below it
+abbrev pub RankedAll : Store → (ℕ → ℕ) → Type 0
+RankedAll S r = (n : ℕ) (d : Declared) → S.at n ≡ Some d → AllMetasHeld (λ m. r m < r n) d
+
+pub either : (m k : ℕ) → (m ≤ k) ⊎ (k < m)
+either zero k = inl (omega arith)
+either (suc m) zero = inr (omega arith)
+either (suc m) (suc k) = go (either m k)
+  where
+    go : (m ≤ k) ⊎ (k < m) → (suc m ≤ suc k) ⊎ (suc k < suc m)
+    go (inl l) = inl (omega arith)
+    go (inr l) = inr (omega arith)
 
 -- a set that has each metavariable of a term
 module _ (P : ℕ → Type 0) where
@@ -268,3 +280,29 @@ module _ (S : Store) where
             let low : AllMetasHeld (λ i. r i < k) c = all_of_held (λ i. r i < k) c (λ i x. let y : r i < r j = held_of_all (λ i. r i < r j) i c (all j c g) x in omega (arith, l, y)) in
             let z : when_there (S.at j) (λ c. reaches_in k c m) ≡ true = ap (λ o. when_there o (λ c. reaches_in k c m)) g ∙ ih c low q in
             some_is (S.bound) (λ j. mentions_held j d && when_there (S.at j) (λ c. reaches_in k c m)) j (in_bound j c g) (both_is (mentions_held j d) (when_there (S.at j) (λ c. reaches_in k c m)) ((held_tells j d).1 f) z)
+
+-- the same with another set of metavariables
+mutual
+  pub weaker : (P Q : ℕ → Type 0) → ((n : ℕ) → P n → Q n) → (t : Tree) → AllMetas P t → AllMetas Q t
+  weaker P Q h (Var i) a = tt
+  weaker P Q h (Sort s) a = tt
+  weaker P Q h (Prod x A B) a = (weaker P Q h A a.0, weaker P Q h B a.1)
+  weaker P Q h (Lam x A b) a = (weaker P Q h A a.0, weaker P Q h b a.1)
+  weaker P Q h (App t u) a = (weaker P Q h t a.0, weaker P Q h u a.1)
+  weaker P Q h (Const c) a = tt
+  weaker P Q h (Ind e) a = tt
+  weaker P Q h (Con e k) a = tt
+  weaker P Q h (Match e R c bs) a = (weaker P Q h R a.0, weaker P Q h c a.1, weaker_arms P Q h bs a.2)
+  weaker P Q h (Meta n s) a = (h n a.0, weaker_all P Q h s a.1)
+
+  pub weaker_all : (P Q : ℕ → Type 0) → ((n : ℕ) → P n → Q n) → (s : Trees) → AllMetasIn P s → AllMetasIn Q s
+  weaker_all P Q h End a = tt
+  weaker_all P Q h (Item t s) a = (weaker P Q h t a.0, weaker_all P Q h s a.1)
+
+  pub weaker_arms : (P Q : ℕ → Type 0) → ((n : ℕ) → P n → Q n) → (bs : Arms) → AllMetasArms P bs → AllMetasArms Q bs
+  weaker_arms P Q h NoArm a = tt
+  weaker_arms P Q h (Arm xs b bs) a = (weaker P Q h b a.0, weaker_arms P Q h bs a.1)
+
+pub weaker_of : (P Q : ℕ → Type 0) → ((n : ℕ) → P n → Q n) → (Γ : List Tree) → AllMetasOf P Γ → AllMetasOf Q Γ
+weaker_of P Q h [] a = tt
+weaker_of P Q h (A ∷ Γ) a = (weaker P Q h A a.0, weaker_of P Q h Γ a.1)

@@ -3,9 +3,6 @@ use Rattle.std.proofs.Common.{length, arith, [], ◌∷◌, ◌≡◌, ℕ, zero
 use mathlib.Core.Path.{fun_ext}
 use Rattle.mt_term.specs.Trees.{Tree, Trees, Arms, Bytes, Var, Sort, Prod, Lam, App, Const, Ind, Con, Match, Meta, End, Item, NoArm, Arm}
 use Rattle.mt_term.specs.Substitution.{up_ren, up_rens, ren, ren_all, ren_arms, then_as, up, ups, tr, tr_all, tr_arms, sub, one, fill, beyond, under, apps, all_but, join, count}
-use Rattle.mt_term.specs.Contraction.{ArmAt, arm_here, arm_later, ItemAt, item_here, item_later}
-use Rattle.mt_term.specs.Typing.{Instantiated, at_none, at_more, MotiveType, m_end, m_more}
-use Rattle.mt_term.specs.declared.universes.Sort.{Sort as AnySort}
 
 up_up_ren : (σ : ℕ → Tree) (ξ : ℕ → ℕ) → (λ (i : ℕ). up σ (up_ren ξ i)) ≡ up (λ i. σ (ξ i))
 up_up_ren σ ξ = fun_ext go
@@ -297,25 +294,9 @@ ups_same [] (y ∷ ys) h σ = absurd (omega arith)
 ups_same (x ∷ xs) [] h σ = absurd (omega arith)
 ups_same (x ∷ xs) (y ∷ ys) h σ = ups_same xs ys (omega arith) (up σ)
 
-pub arm_at_tr : (f : ℕ → Trees → Tree) (σ : ℕ → Tree) {bs : Arms} {k : ℕ} {xs : List Bytes} {b : Tree} → ArmAt bs k xs b → ArmAt (tr_arms f σ bs) k xs (tr f (ups xs σ) b)
-arm_at_tr f σ arm_here = arm_here
-arm_at_tr f σ (arm_later a) = arm_later (arm_at_tr f σ a)
-
-pub item_at_tr : (f : ℕ → Trees → Tree) (σ : ℕ → Tree) {a : Tree} {s : Trees} {r : ℕ} → ItemAt a s r → ItemAt (tr f σ a) (tr_all f σ s) r
-item_at_tr f σ item_here = item_here
-item_at_tr f σ (item_later i) = item_later (item_at_tr f σ i)
-
 -- under a binder
 pub up_tr : (f : ℕ → Trees → Tree) → Steady f → (σ : ℕ → Tree) (t : Tree) → tr f (up σ) (ren suc t) ≡ ren suc (tr f σ t)
 up_tr f st σ t = tr_ren f (up σ) suc t ∙ sym (ren_tr f (steady_natural f st) σ suc t)
-
-pub instantiated_tr : (f : ℕ → Trees → Tree) → Steady f → (σ : ℕ → Tree) {T : Tree} {s : Trees} {U : Tree} → Instantiated T s U → Instantiated (tr f σ T) (tr_all f σ s) (tr f σ U)
-instantiated_tr f st σ at_none = at_none
-instantiated_tr f st σ (at_more {B = B} {a = a} {T = U} {s = s} i) = at_more (subst (λ C. Instantiated C (tr_all f σ s) (tr f σ U)) (tr_one f st σ a B) (instantiated_tr f st σ i))
-
-pub motive_tr : {s : AnySort} (f : ℕ → Trees → Tree) → Steady f → (σ : ℕ → Tree) {r : AnySort} {T h M : Tree} → MotiveType s T h r M → MotiveType s (tr f σ T) (tr f σ h) r (tr f σ M)
-motive_tr f st σ m_end = m_end
-motive_tr {s = s} f st σ {r = r} (m_more {B = B} {h = h} {M = M} m) = m_more (subst (λ g. MotiveType s (tr f (up σ) B) (App g (Var zero)) r (tr f (up σ) M)) (up_tr f st σ h) (motive_tr f st (up σ) m))
 
 pub spine_tr : (f : ℕ → Trees → Tree) (σ : ℕ → Tree) (e : ℕ) (ps is : Trees) → tr f σ (apps (apps (Ind e) ps) is) ≡ apps (apps (Ind e) (tr_all f σ ps)) (tr_all f σ is)
 spine_tr f σ e ps is = tr_apps f σ (apps (Ind e) ps) is ∙ ap (λ t. apps t (tr_all f σ is)) (tr_apps f σ (Ind e) ps)

@@ -2,14 +2,13 @@
 use Rattle.std.proofs.Common.{true, false, ◌≡◌, ◌<◌, ℕ, List, [], ◌∷◌, Option, Some, None, refl, arith}
 use Rattle.std.specs.Prelude.{codes}
 use Rattle.mt_term.specs.declared.universes.Sort.TheVariants.{Prop, Typ}
-use Rattle.mt_term.specs.Trees.{Tree, Trees, Var, Sort, Prod, Lam, App, Const, Ind, Con, Match, Meta, End, Item, NoArm, Arm}
-use Rattle.mt_term.specs.Declarations.{Declaration, Axiom, Inductive, Environment}
+use Rattle.mt_term.specs.Trees.{Tree, Var, Sort, Lam, App, Const, Ind, Con, Match, Meta, End, Item, NoArm, Arm}
+use Rattle.mt_term.specs.Declarations.{Axiom, Inductive, Environment}
 use Rattle.mt_term.specs.States.{Metavariable}
-use Rattle.mt_term.specs.Substitution.{lift, substitute, under, apps}
+use Rattle.mt_term.specs.Substitution.{under, apps}
+use Rattle.mt_term.specs.Lifting.{lift, substitute}
 use Rattle.mt_term.specs.Alike.{is_alike}
-use Rattle.mt_term.specs.Spines.{as_con, as_const, as_ind, bullet}
-use Rattle.mt_term.specs.Stores.{no_store}
-use Rattle.mt_term.specs.Scopes.{InScope, Plain}
+use Rattle.mt_term.specs.Spines.{as_con, as_const, as_ind, motive_on}
 use Rattle.mt_term.specs.Naming.{named}
 use Rattle.mt_term.specs.Instancing.{instance}
 
@@ -73,28 +72,16 @@ type_on_arguments = refl
 all_arguments : apps (Con 0 1) (Item prop (Item (Var 0) End)) ≡ App (App (Con 0 1) prop) (Var 0)
 all_arguments = refl
 
-at_an_abstraction : bullet (Lam (codes "x") prop (App (Var 0) (Var 1))) small ≡ App small (Var 0)
+at_an_abstraction : motive_on (Lam (codes "x") prop (App (Var 0) (Var 1))) small ≡ App small (Var 0)
 at_an_abstraction = refl
 
-at_a_variable : bullet (Var 0) small ≡ App (Var 0) small
+at_a_variable : motive_on (Var 0) small ≡ App (Var 0) small
 at_a_variable = refl
 
 -- ---- scope and names: `axiom a : Prop.`, and a type n with one constructor o
 
 abbrev sample : Environment
 sample = record { entries = Axiom (codes "a") prop ∷ Inductive (codes "n") false 0 small (record { name = codes "o"; ty = Ind 1 } ∷ []) true ∷ []; names = []; below = [] }
-
-in_scope : InScope sample no_store 1 (Lam (codes "x") (Const 0) (App (Var 0) (Var 1)))
-in_scope = (omega arith, (omega arith, omega arith))
-
-no_such_variable : InScope sample no_store 1 (Var 1) → ⊥
-no_such_variable h = omega arith
-
-no_such_entry : InScope sample no_store 0 (Const 2) → ⊥
-no_such_entry h = omega arith
-
-no_metavariable_is_plain : Plain 0 (App (Const 0) (Meta 0 End)) → ⊥
-no_metavariable_is_plain h = h.1
 
 an_entry_by_name : named sample.entries (codes "n") ≡ Some (Ind 1)
 an_entry_by_name = refl

@@ -6,7 +6,7 @@ use Rattle.std.proofs.lemmas.List.Folds.{list_any-append}
 use Rattle.std.proofs.lemmas.List.{set_split, drop_more, drop_all, take_more, at_drop_more}
 use Rattle.mt_term.specs.declared.universes.Atom.{Atom}
 use Rattle.mt_term.specs.declared.universes.UnivExpr.{UnivExpr}
-use Rattle.mt_term.specs.Universes.{with_atom, with_atoms, by_name, reaches, normal_form, maximum, raised_base, raised_atoms, fits_atom, fits, raised}
+use Rattle.mt_term.specs.UniverseForms.{with_atom, with_atoms, by_name, is_below_an_atom, normal_form, maximum, raised_base, raised_atoms, fits_atom, fits, raised}
 
 abbrev joined_atom : Atom → Atom → Atom
 joined_atom a b = record { name = b.name; offset = max a.offset b.offset }
@@ -65,18 +65,18 @@ with_atoms_append [] ys bs = refl
 with_atoms_append (x ∷ xs) ys bs = ap (with_atom x) (with_atoms_append xs ys bs)
 
 -- the normal form, part by part
-pub normal_form_is : (u : UnivExpr) (base : ℕ) (xs : List Atom) → xs ≡ with_atoms u.atoms [] → base ≡ cond (reaches u.base u.atoms) 0 u.base → ◌≡◌ {A = UnivExpr} (record { base = base; atoms = xs }) (normal_form u)
+pub normal_form_is : (u : UnivExpr) (base : ℕ) (xs : List Atom) → xs ≡ with_atoms u.atoms [] → base ≡ cond (is_below_an_atom u.base u.atoms) 0 u.base → ◌≡◌ {A = UnivExpr} (record { base = base; atoms = xs }) (normal_form u)
 unfolding normal_form
 normal_form_is u base xs e f = λ i. record { base = f i; atoms = e i }
 
 -- the maximum of two, part by part
 pub maximum_is : (u w : UnivExpr) (base : ℕ) (xs ys : List Atom) → ys ≡ with_atoms w.atoms [] → xs ≡ with_atoms u.atoms ys
-    → base ≡ cond (reaches (max u.base w.base) u.atoms || reaches (max u.base w.base) w.atoms) 0 (max u.base w.base)
+    → base ≡ cond (is_below_an_atom (max u.base w.base) u.atoms || is_below_an_atom (max u.base w.base) w.atoms) 0 (max u.base w.base)
     → ◌≡◌ {A = UnivExpr} (record { base = base; atoms = xs }) (maximum u w)
 unfolding maximum normal_form
 maximum_is u w base xs ys e f g =
     let atoms : xs ≡ by_name (u.atoms ++ w.atoms) = f ∙ ap (with_atoms u.atoms) e ∙ sym (with_atoms_append u.atoms w.atoms []) in
-    let bases : base ≡ cond (reaches (max u.base w.base) (u.atoms ++ w.atoms)) 0 (max u.base w.base) =
+    let bases : base ≡ cond (is_below_an_atom (max u.base w.base) (u.atoms ++ w.atoms)) 0 (max u.base w.base) =
     g ∙ ap (λ b. cond b 0 (max u.base w.base)) (sym (list_any-append (λ (a : Atom). leb (max u.base w.base) a.offset) u.atoms w.atoms)) in
     λ i. record { base = bases i; atoms = atoms i }
 

@@ -3,7 +3,8 @@ use Rattle.std.specs.Prelude.{◌≡◌, ℕ, true, false, [], ◌∷◌, Some, 
 use mathlib.Core.Path.{refl}
 use Rattle.mt_term.specs.declared.universes.Atom.{Atom}
 use Rattle.mt_term.specs.declared.universes.UnivExpr.{UnivExpr}
-use Rattle.mt_term.specs.Universes.{Constraints, normal_form, maximum, raised}
+use Rattle.mt_term.specs.Universes.{Constraints}
+use Rattle.mt_term.specs.UniverseForms.{normal_form, maximum, raised}
 use Rattle.mt_term.specs.UniverseOrder.{path, height, acyclic, at_most, same}
 
 abbrev atom : ℕ → ℕ → Atom

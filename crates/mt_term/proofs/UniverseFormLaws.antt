@@ -4,7 +4,8 @@ use Rattle.std.proofs.lemmas.Bool.{or_cases, cases_Bool, false≢true, leb-true}
 use Rattle.std.proofs.lemmas.Bool.Decides.{nat_tests}
 use Rattle.mt_term.specs.declared.universes.Atom.{Atom}
 use Rattle.mt_term.specs.declared.universes.UnivExpr.{UnivExpr}
-use Rattle.mt_term.specs.Universes.{Valuation, value_of_atoms, value, with_atom, with_atoms, by_name, reaches, normal_form, maximum, raised_base, raised_atoms, raised, fits}
+use Rattle.mt_term.specs.Universes.{Valuation, value_of_atoms, value}
+use Rattle.mt_term.specs.UniverseForms.{with_atom, with_atoms, by_name, is_below_an_atom, normal_form, maximum, raised_base, raised_atoms, raised, fits}
 
 value_of_with_atom : (v : Valuation) (a : Atom) (bs : List Atom) → value_of_atoms v (with_atom a bs) ≡ max (v a.name + a.offset) (value_of_atoms v bs)
 value_of_with_atom v a [] = refl
@@ -23,10 +24,10 @@ value_of_append : (v : Valuation) (xs ys : List Atom) → value_of_atoms v (xs +
 value_of_append v [] ys = omega arith
 value_of_append v (a ∷ rest) ys = omega (arith, value_of_append v rest ys)
 
-reached : (v : Valuation) (n : ℕ) (xs : List Atom) → reaches n xs ≡ true → n ≤ value_of_atoms v xs
+reached : (v : Valuation) (n : ℕ) (xs : List Atom) → is_below_an_atom n xs ≡ true → n ≤ value_of_atoms v xs
 reached v n [] e = absurd (false≢true e)
 reached v n (a ∷ rest) e =
-    elim (or_cases (leb n a.offset) (reaches n rest) e) [
+    elim (or_cases (leb n a.offset) (is_below_an_atom n rest) e) [
       | inl t ↦ omega (arith, leb-true n a.offset t)
       | inr t ↦ omega (arith, reached v n rest t)
     ]
@@ -35,10 +36,10 @@ reached v n (a ∷ rest) e =
 pub value_of_normal_form : (v : Valuation) (u : UnivExpr) → value v (normal_form u) ≡ value v u
 unfolding normal_form
 value_of_normal_form v u =
-    elim (cases_Bool (reaches u.base u.atoms)) [
-      | inl t ↦ (let b : cond (reaches u.base u.atoms) 0 u.base ≡ 0 = ap (λ x. cond x 0 u.base) t in
+    elim (cases_Bool (is_below_an_atom u.base u.atoms)) [
+      | inl t ↦ (let b : cond (is_below_an_atom u.base u.atoms) 0 u.base ≡ 0 = ap (λ x. cond x 0 u.base) t in
           omega (arith, b, reached v u.base u.atoms t, value_of_by_name v u.atoms))
-      | inr f ↦ (let b : cond (reaches u.base u.atoms) 0 u.base ≡ u.base = ap (λ x. cond x 0 u.base) f in
+      | inr f ↦ (let b : cond (is_below_an_atom u.base u.atoms) 0 u.base ≡ u.base = ap (λ x. cond x 0 u.base) f in
           omega (arith, b, value_of_by_name v u.atoms))
     ]
 

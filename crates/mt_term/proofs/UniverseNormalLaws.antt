@@ -4,7 +4,7 @@ use Rattle.std.proofs.lemmas.Bool.{cases_Bool, cases_order, both_ways, cond-true
 use Rattle.std.proofs.lemmas.Bool.Decides.{nat_tests}
 use Rattle.mt_term.specs.declared.universes.Atom.{Atom}
 use Rattle.mt_term.specs.declared.universes.UnivExpr.{UnivExpr}
-use Rattle.mt_term.specs.Universes.{with_atom, by_name, reaches, normal_form, AreAbove, AreByName, IsNormal}
+use Rattle.mt_term.specs.UniverseForms.{with_atom, by_name, is_below_an_atom, normal_form, AreAbove, AreByName, IsNormal}
 use Rattle.mt_term.proofs.UniverseAtoms.{with_atom_past, with_atom_before, with_atom_same}
 
 with_atom_above : (n : ℕ) (a : Atom) (bs : List Atom) → n < a.name → AreAbove n bs → AreAbove n (with_atom a bs)
@@ -29,13 +29,13 @@ by_name_ordered : (xs : List Atom) → AreByName (by_name xs)
 by_name_ordered [] = tt
 by_name_ordered (a ∷ xs) = with_atom_ordered a (by_name xs) (by_name_ordered xs)
 
-reaches_with_atom : (n : ℕ) (a : Atom) (bs : List Atom) → reaches n (with_atom a bs) ≡ (leb n a.offset || reaches n bs)
+reaches_with_atom : (n : ℕ) (a : Atom) (bs : List Atom) → is_below_an_atom n (with_atom a bs) ≡ (leb n a.offset || is_below_an_atom n bs)
 reaches_with_atom n a [] = refl
 reaches_with_atom n a (b ∷ bs) =
     elim (cases_order a.name b.name) [
-      | inl e ↦ ap (reaches n) (with_atom_same a b bs e) ∙ either (leb n (max a.offset b.offset)) (leb n a.offset) (leb n b.offset) (reaches n bs) (grind (arith, nat_tests))
-      | inr (inl l) ↦ ap (reaches n) (with_atom_before a b bs l)
-      | inr (inr g) ↦ ap (reaches n) (with_atom_past a b bs g) ∙ ap (λ t. leb n b.offset || t) (reaches_with_atom n a bs) ∙ turned (leb n b.offset) (leb n a.offset) (reaches n bs)
+      | inl e ↦ ap (is_below_an_atom n) (with_atom_same a b bs e) ∙ either (leb n (max a.offset b.offset)) (leb n a.offset) (leb n b.offset) (is_below_an_atom n bs) (grind (arith, nat_tests))
+      | inr (inl l) ↦ ap (is_below_an_atom n) (with_atom_before a b bs l)
+      | inr (inr g) ↦ ap (is_below_an_atom n) (with_atom_past a b bs g) ∙ ap (λ t. leb n b.offset || t) (reaches_with_atom n a bs) ∙ turned (leb n b.offset) (leb n a.offset) (is_below_an_atom n bs)
     ]
   where
     either : (t x y z : Bool) → t ≡ (x || y) → (t || z) ≡ (x || (y || z))
@@ -48,7 +48,7 @@ reaches_with_atom n a (b ∷ bs) =
     turned false true z = refl
     turned false false z = refl
 
-reaches_by_name : (n : ℕ) (xs : List Atom) → reaches n (by_name xs) ≡ reaches n xs
+reaches_by_name : (n : ℕ) (xs : List Atom) → is_below_an_atom n (by_name xs) ≡ is_below_an_atom n xs
 reaches_by_name n [] = refl
 reaches_by_name n (a ∷ xs) = reaches_with_atom n a (by_name xs) ∙ ap (λ t. leb n a.offset || t) (reaches_by_name n xs)
 
@@ -56,10 +56,10 @@ pub normal_form_normal : (u : UnivExpr) → IsNormal (normal_form u)
 unfolding normal_form
 normal_form_normal u = (
   by_name_ordered u.atoms,
-  elim (cases_Bool (reaches u.base u.atoms)) [
-    | inl t ↦ (λ _. cond-true {A = ℕ} (reaches u.base u.atoms) 0 u.base t)
-    | inr f ↦ (λ e. let same : cond {A = ℕ} (reaches u.base u.atoms) 0 u.base ≡ u.base = cond-false {A = ℕ} (reaches u.base u.atoms) 0 u.base f in
-        absurd (both_ways (reaches u.base u.atoms) f (sym (ap (λ n. reaches n (by_name u.atoms)) same ∙ reaches_by_name u.base u.atoms) ∙ e)))
+  elim (cases_Bool (is_below_an_atom u.base u.atoms)) [
+    | inl t ↦ (λ _. cond-true {A = ℕ} (is_below_an_atom u.base u.atoms) 0 u.base t)
+    | inr f ↦ (λ e. let same : cond {A = ℕ} (is_below_an_atom u.base u.atoms) 0 u.base ≡ u.base = cond-false {A = ℕ} (is_below_an_atom u.base u.atoms) 0 u.base f in
+        absurd (both_ways (is_below_an_atom u.base u.atoms) f (sym (ap (λ n. is_below_an_atom n (by_name u.atoms)) same ∙ reaches_by_name u.base u.atoms) ∙ e)))
   ],
 )
 
@@ -73,8 +73,8 @@ pub normal_form_kept : (u : UnivExpr) → IsNormal u → normal_form u ≡ u
 unfolding normal_form
 normal_form_kept u h =
     let atoms : by_name u.atoms ≡ u.atoms = by_name_kept u.atoms h.0 in
-    let base : cond {A = ℕ} (reaches u.base u.atoms) 0 u.base ≡ u.base = elim (cases_Bool (reaches u.base u.atoms)) [
-      | inl t ↦ cond-true {A = ℕ} (reaches u.base u.atoms) 0 u.base t ∙ sym (h.1 t)
-      | inr f ↦ cond-false {A = ℕ} (reaches u.base u.atoms) 0 u.base f
+    let base : cond {A = ℕ} (is_below_an_atom u.base u.atoms) 0 u.base ≡ u.base = elim (cases_Bool (is_below_an_atom u.base u.atoms)) [
+      | inl t ↦ cond-true {A = ℕ} (is_below_an_atom u.base u.atoms) 0 u.base t ∙ sym (h.1 t)
+      | inr f ↦ cond-false {A = ℕ} (is_below_an_atom u.base u.atoms) 0 u.base f
     ] in
     λ i. record { base = base i; atoms = atoms i }

@@ -1,6 +1,7 @@
 -- Equality of terms but for binder names.
 use Rattle.std.specs.Prelude.{Bool, true, false, ◌&&◌, nat_eq, List, [], ◌∷◌, length}
-use Rattle.mt_term.specs.Trees.{Tree, Trees, Arms, Var, Sort, Prod, Lam, App, Const, Ind, Con, Match, Meta, End, Item, NoArm, Arm}
+use Rattle.mt_term.specs.Trees.{Tree, Trees, Arms, Var, Sort, Prod, Lam, App, Const, Ind, Con}
+use Rattle.mt_term.specs.Trees.{Match, Meta, End, Item, NoArm, Arm}
 use Rattle.mt_term.specs.declared.universes.Atom.{Atom}
 use Rattle.mt_term.specs.declared.universes.UnivExpr.{UnivExpr}
 use Rattle.mt_term.specs.declared.universes.Sort.{Sort as AnySort}
@@ -46,7 +47,8 @@ abbrev mutual
   -- two lists of branches with as many names in each, pairwise
   pub alike_arms : Arms → Arms → Bool
   alike_arms NoArm NoArm = true
-  alike_arms (Arm xs b bs) (Arm ys c cs) = nat_eq (length xs) (length ys) && alike b c && alike_arms bs cs
+  alike_arms (Arm xs b bs) (Arm ys c cs) =
+      nat_eq (length xs) (length ys) && alike b c && alike_arms bs cs
   alike_arms _ _ = false
 
 -- the same by a name that stays as it is in a goal

@@ -1,6 +1,8 @@
--- How deep a term is: the steps from its root to the furthest leaf. The rest of a list counts as a step too, as a program goes down it.
+-- How deep a term is: the steps from its root to the furthest leaf. The rest of a list counts as a
+-- step too, as a program goes down it.
 use Rattle.std.specs.Prelude.{ℕ, ◌+◌, max, ◌≡◌, refl}
-use Rattle.mt_term.specs.Trees.{Tree, Trees, Arms, Var, Sort, Prod, Lam, App, Const, Ind, Con, Match, Meta, End, Item, NoArm, Arm}
+use Rattle.mt_term.specs.Trees.{Tree, Trees, Arms, Var, Sort, Prod, Lam, App, Const, Ind, Con}
+use Rattle.mt_term.specs.Trees.{Match, Meta, End, Item, NoArm, Arm}
 
 abbrev mutual
   pub depth : Tree → ℕ

@@ -1,6 +1,10 @@
--- Instances as a function: over a store in which no metavariable is below itself, what it gives is the instance.
-use Rattle.std.specs.Prelude.{ℕ, zero, suc, List, length, Option, Some, None, option_map, slice_get}
-use Rattle.mt_term.specs.Trees.{Tree, Trees, Arms, Bytes, Var, Sort, Prod, Lam, App, Const, Ind, Con, Match, Meta, End, Item, NoArm, Arm}
+-- Instances as a function: over a store in which no metavariable is below itself, what it gives is
+-- the instance.
+use Rattle.std.specs.Prelude.{ℕ, zero, suc, List, [], ◌∷◌, ◌++◌, length, Option, Some, None}
+use Rattle.std.specs.Prelude.{option_map, slice_get}
+use Rattle.mt_term.specs.Trees.{Tree, Trees, Arms, Bytes, Var, Sort, Prod, Lam, App, Const, Ind}
+use Rattle.mt_term.specs.Trees.{Con, Match, Meta, End, Item, NoArm, Arm}
+use Rattle.mt_term.specs.Declarations.{Hypothesis}
 use Rattle.mt_term.specs.States.{Metavariable}
 use Rattle.mt_term.specs.Substitution.{under}
 
@@ -39,8 +43,18 @@ assigned_body (Some m) = m.body
 -- the instances of bodies, through so many bodies within bodies
 abbrev pub body_values : List Metavariable → ℕ → ℕ → Option Tree
 body_values ms zero n = None
-body_values ms (suc k) n = option_map (put_values (body_values ms k)) (assigned_body (slice_get ms n))
+body_values ms (suc k) n =
+    option_map (put_values (body_values ms k)) (assigned_body (slice_get ms n))
 
--- The instance of a term: a body goes through fewer bodies than there are metavariables, where none is below itself.
+-- The instance of a term: a body goes through fewer bodies than there are metavariables, where none
+-- is below itself.
 abbrev pub instance : List Metavariable → Tree → Tree
 instance ms t = put_values (body_values ms (length ms)) t
+
+-- the instances of the types of hypotheses
+abbrev pub instance_part : List Metavariable → Hypothesis → List Hypothesis
+instance_part ms h = record { name = h.name; ty = instance ms h.ty } ∷ []
+
+abbrev pub instances : List Metavariable → List Hypothesis → List Hypothesis
+instances ms [] = []
+instances ms (h ∷ hs) = instance_part ms h ++ instances ms hs

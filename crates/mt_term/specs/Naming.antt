@@ -2,7 +2,8 @@
 use Rattle.std.specs.Prelude.{ℕ, suc, if◌then◌else◌, List, [], ◌∷◌, ◌++◌, Option, Some, None}
 use Rattle.std.specs.Str.{bytes_eq}
 use Rattle.mt_term.specs.Trees.{Tree, Bytes, Const, Ind, Con}
-use Rattle.mt_term.specs.Declarations.{Constructor, Declaration, Axiom, Definition, Inductive, Recursive}
+use Rattle.mt_term.specs.Declarations.{Constructor, Declaration, Axiom, Definition, Inductive}
+use Rattle.mt_term.specs.Declarations.{Recursive}
 
 -- the name of an entry
 abbrev pub name_of : Declaration → Bytes

@@ -8,7 +8,14 @@ use Rattle.mt_term.specs.declared.notes.Note.TheVariants as noted
 use denote.Bor.{Bor}
 
 abbrev pub hint_of : PlainHint → Hint
-hint_of h = record { precedence = h.precedence; vars = h.vars; eqs = h.eqs; left = tree_of h.left; right = tree_of h.right }
+hint_of h =
+    record {
+      precedence = h.precedence;
+      vars = h.vars;
+      eqs = h.eqs;
+      left = tree_of h.left;
+      right = tree_of h.right;
+    }
 
 abbrev pub note_of : TheNote → Note
 note_of (noted.Entry n) = EntryNote n

@@ -1,6 +1,8 @@
--- Lifting and substitution told with the number of binders passed, as a program that goes down a term does it.
+-- Lifting and substitution told with the number of binders passed, as a program that goes down a
+-- term does it.
 use Rattle.std.specs.Prelude.{ℕ, ◌+◌, ◌-◌, length, if◌then◌else◌, nat_lt}
-use Rattle.mt_term.specs.Trees.{Tree, Trees, Arms, Var, Sort, Prod, Lam, App, Const, Ind, Con, Match, Meta, End, Item, NoArm, Arm}
+use Rattle.mt_term.specs.Trees.{Tree, Trees, Arms, Var, Sort, Prod, Lam, App, Const, Ind, Con}
+use Rattle.mt_term.specs.Trees.{Match, Meta, End, Item, NoArm, Arm}
 
 abbrev mutual
   -- the variables from a place on are raised, the place going up with each binder
@@ -13,7 +15,8 @@ abbrev mutual
   lift_past by from (Const c) = Const c
   lift_past by from (Ind e) = Ind e
   lift_past by from (Con e k) = Con e k
-  lift_past by from (Match e r c bs) = Match e (lift_past by from r) (lift_past by from c) (lift_past_arms by from bs)
+  lift_past by from (Match e r c bs) =
+      Match e (lift_past by from r) (lift_past by from c) (lift_past_arms by from bs)
   lift_past by from (Meta n s) = Meta n (lift_past_all by from s)
 
   pub lift_past_all : ℕ → ℕ → Trees → Trees
@@ -22,10 +25,12 @@ abbrev mutual
 
   pub lift_past_arms : ℕ → ℕ → Arms → Arms
   lift_past_arms by from NoArm = NoArm
-  lift_past_arms by from (Arm xs b bs) = Arm xs (lift_past by (from + length xs) b) (lift_past_arms by from bs)
+  lift_past_arms by from (Arm xs b bs) =
+      Arm xs (lift_past by (from + length xs) b) (lift_past_arms by from bs)
 
 abbrev mutual
-  -- the variables past the binders are replaced, and what stands for one is lifted by all the binders passed
+  -- the variables past the binders are replaced, and what stands for one is lifted by all the
+  -- binders passed
   pub sub_past : ℕ → (ℕ → Tree) → Tree → Tree
   sub_past past σ (Var i) = if nat_lt i past then Var i else lift_past past 0 (σ (i - past))
   sub_past past σ (Sort s) = Sort s
@@ -35,7 +40,8 @@ abbrev mutual
   sub_past past σ (Const c) = Const c
   sub_past past σ (Ind e) = Ind e
   sub_past past σ (Con e k) = Con e k
-  sub_past past σ (Match e r c bs) = Match e (sub_past past σ r) (sub_past past σ c) (sub_past_arms past σ bs)
+  sub_past past σ (Match e r c bs) =
+      Match e (sub_past past σ r) (sub_past past σ c) (sub_past_arms past σ bs)
   sub_past past σ (Meta n s) = Meta n (sub_past_all past σ s)
 
   pub sub_past_all : ℕ → (ℕ → Tree) → Trees → Trees
@@ -44,4 +50,5 @@ abbrev mutual
 
   pub sub_past_arms : ℕ → (ℕ → Tree) → Arms → Arms
   sub_past_arms past σ NoArm = NoArm
-  sub_past_arms past σ (Arm xs b bs) = Arm xs (sub_past (past + length xs) σ b) (sub_past_arms past σ bs)
+  sub_past_arms past σ (Arm xs b bs) =
+      Arm xs (sub_past (past + length xs) σ b) (sub_past_arms past σ bs)

@@ -1,7 +1,10 @@
 -- What a refusal of the program says.
 use Rattle.std.specs.Prelude.{reverse}
 use Rattle.mt_term.specs.TreeOf.{tree_of}
-use Rattle.mt_term.specs.Declarations.{Reason, Lex, Syntax, Incomplete, TooDeep, Unbound, Taken, Mismatch, NotAFunction, NotASort, NoExpected, Cycle, NotPositive, NotGuarded, BadElimination, BadHint, BadCoercion, OpenMetas, NoGoal, NoBranch, NoSuchPosition, NotHere, KernelRefused, Spent}
+use Rattle.mt_term.specs.Reasons.{Reason, Lex, Syntax, Incomplete, TooDeep, Unbound, Taken}
+use Rattle.mt_term.specs.Reasons.{Mismatch, NotAFunction, NotASort, NoExpected, Cycle, NotPositive}
+use Rattle.mt_term.specs.Reasons.{NotGuarded, BadElimination, BadHint, BadCoercion, OpenMetas}
+use Rattle.mt_term.specs.Reasons.{NoGoal, NoBranch, NoSuchPosition, NotHere, KernelRefused, Spent}
 use Rattle.mt_term.specs.declared.refusals.Refusal.{Refusal}
 use Rattle.mt_term.specs.declared.refusals.Refusal.TheVariants as refusal
 
@@ -12,7 +15,8 @@ reason_of refusal.Incomplete = Incomplete
 reason_of refusal.TooDeep = TooDeep
 reason_of (refusal.Unbound x) = Unbound x
 reason_of (refusal.Taken x) = Taken x
-reason_of (refusal.Mismatch context inferred expected known) = Mismatch (reverse context) (tree_of inferred) (tree_of expected) known
+reason_of (refusal.Mismatch context inferred expected known) =
+    Mismatch (reverse context) (tree_of inferred) (tree_of expected) known
 reason_of refusal.NotAFunction = NotAFunction
 reason_of refusal.NotASort = NotASort
 reason_of refusal.NoExpected = NoExpected

@@ -26,15 +26,15 @@ abbrev pub on_args : Option Tree → Trees → Option Tree
 on_args None s = None
 on_args (Some t) s = Some (apps t s)
 
--- a return function on an argument: the body at it where it is an abstraction, else the application
-abbrev pub bullet : Tree → Tree → Tree
-bullet (Lam x a b) u = sub (one u) b
-bullet r u = App r u
+-- a motive on an argument: the body at it where it is an abstraction, else the application
+abbrev pub motive_on : Tree → Tree → Tree
+motive_on (Lam x a b) u = sub (one u) b
+motive_on r u = App r u
 
 -- the same on several arguments
-abbrev pub bullets : Tree → Trees → Tree
-bullets r End = r
-bullets r (Item u s) = bullets (bullet r u) s
+abbrev pub motive_on_all : Tree → Trees → Tree
+motive_on_all r End = r
+motive_on_all r (Item u s) = motive_on_all (motive_on r u) s
 
 -- a type of products at arguments
 abbrev pub at_args : Tree → Trees → Option Tree

@@ -14,4 +14,12 @@ open_proof_of None = None
 open_proof_of (Some p) = Some (proof_of p)
 
 abbrev pub state_of : PlainState → State
-state_of s = record { env = environment_of s.env; store = s.store.metas; proof = open_proof_of s.proof; units = s.units; place = s.place; notes = s.notes }
+state_of s =
+    record {
+      env = environment_of s.env;
+      store = s.store.metas;
+      proof = open_proof_of s.proof;
+      units = s.units;
+      place = s.place;
+      notes = s.notes;
+    }

@@ -30,7 +30,8 @@ pub record Equation : Type 0 where
   pub place : ℕ
   pub term : Tree
 
--- a hint: its precedence, its variables, oldest first, its equations and the two sides of its conclusion
+-- a hint: its precedence, its variables, oldest first, its equations and the two sides of its
+-- conclusion
 pub record Hint : Type 0 where
   pub precedence : ℕ
   pub vars : List Hypothesis

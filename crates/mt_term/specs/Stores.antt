@@ -1,12 +1,15 @@
 -- Stores of metavariables.
 use mathlib.Core.Path.{refl, ap}
-use Rattle.std.specs.Prelude.{◌≡◌, ◌≢◌, ◌≤◌, ℕ, List, [], ◌∷◌, length, Option, Some, None, option_map, slice_get, ◌⊎◌}
+use Rattle.std.specs.Prelude.{◌≡◌, ◌≢◌, ◌≤◌, ℕ, List, [], ◌∷◌, length, Option, Some, None}
+use Rattle.std.specs.Prelude.{option_map, slice_get, ◌⊎◌}
 use Rattle.std.proofs.lemmas.Option.{slice_get_past}
 use Rattle.mt_term.specs.Declarations.{Hypothesis}
 use Rattle.mt_term.specs.States.{Metavariable}
-use Rattle.mt_term.specs.Trees.{Tree, Trees, Arms, Var, Sort, Prod, Lam, App, Const, Ind, Con, Match, Meta, End, Item, NoArm, Arm}
+use Rattle.mt_term.specs.Trees.{Tree, Trees, Arms, Var, Sort, Prod, Lam, App, Const, Ind, Con}
+use Rattle.mt_term.specs.Trees.{Match, Meta, End, Item, NoArm, Arm}
 
--- a metavariable as judgements see it: the types of its context, innermost first, its type, and perhaps a body
+-- a metavariable as judgements see it: the types of its context, innermost first, its type, and
+-- perhaps a body
 pub record Declared : Type 0 where
   pub context : List Tree
   pub ty : Tree
@@ -40,7 +43,12 @@ declared_as m = record { context = types_of m.context; ty = m.ty; body = m.body 
 
 -- a list of metavariables by their places, as judgements see it
 abbrev pub store_of : List Metavariable → Store
-store_of ms = record { at = λ n. option_map declared_as (slice_get ms n); bound = length ms; none = λ n h. ap (option_map declared_as) (slice_get_past ms n h) }
+store_of ms =
+    record {
+      at = λ n. option_map declared_as (slice_get ms n);
+      bound = length ms;
+      none = λ n h. ap (option_map declared_as) (slice_get_past ms n h);
+    }
 
 -- each metavariable that stands in a term is in a set
 abbrev mutual
@@ -116,10 +124,15 @@ pub data MentionsHeld (m : ℕ) (d : Declared) : Type 0 where
   by_type : Mentions m (d.ty) → MentionsHeld m d
   by_body : (b : Tree) → d.body ≡ Some b → Mentions m b → MentionsHeld m d
 
--- what is reached from the metavariables that come first: these, and those in the context, type or body of one that is reached
+-- what is reached from the metavariables that come first: these, and those in the context, type or
+-- body of one that is reached
 pub data Reached (S : Store) (First : ℕ → Type 0) : ℕ → Type 0 where
   at_once : {m : ℕ} → First m → Reached S First m
-  onward : {m k : ℕ} {d : Declared} → Reached S First k → S.at k ≡ Some d → MentionsHeld m d → Reached S First m
+  onward : {m k : ℕ} {d : Declared}
+      → Reached S First k
+      → S.at k ≡ Some d
+      → MentionsHeld m d
+      → Reached S First m
 
 -- a term reaches a metavariable
 abbrev pub Reaches : Store → Tree → ℕ → Type 0
@@ -133,17 +146,7 @@ Below S d m = Reached S (λ k. MentionsHeld k d) m
 abbrev pub Acyclic : Store → Type 0
 Acyclic S = (n : ℕ) (d : Declared) → S.at n ≡ Some d → Below S d n → ⊥
 
--- a store is the part of another that a set holds
-pub record Part (S : Store) (P : ℕ → Type 0) (T : Store) : Type 0 where
-  pub held : (m : ℕ) (d : Declared) → T.at m ≡ Some d → P m × (S.at m ≡ Some d)
-  pub all : (m : ℕ) (d : Declared) → P m → S.at m ≡ Some d → T.at m ≡ Some d
-
--- a metavariable is kept: it has the same context and type, and its body if it has one
-pub record Kept (d c : Declared) : Type 0 where
-  pub context : c.context ≡ d.context
-  pub ty : c.ty ≡ d.ty
-  pub body : (b : Tree) → d.body ≡ Some b → c.body ≡ Some b
-
--- a store extends another: each metavariable of that one is kept in it
-abbrev pub Extends : Store → Store → Type 0
-Extends S S' = (n : ℕ) (d : Declared) → S.at n ≡ Some d → (c : Declared) × (S'.at n ≡ Some c) × Kept d c
+-- a metavariable's body, if it has one
+abbrev pub body_of : Option Declared → Option Tree
+body_of None = None
+body_of (Some d) = d.body

@@ -1,6 +1,7 @@
 -- Renaming and substitution: one parallel transformation of variables and metavariables.
-use Rattle.std.specs.Prelude.{ℕ, zero, suc, ◌+◌, List, [], ◌∷◌}
-use Rattle.mt_term.specs.Trees.{Tree, Trees, Arms, Var, Sort, Prod, Lam, App, Const, Ind, Con, Match, Meta, End, Item, NoArm, Arm, Bytes}
+use Rattle.std.specs.Prelude.{ℕ, zero, suc, List, [], ◌∷◌}
+use Rattle.mt_term.specs.Trees.{Tree, Trees, Arms, Var, Sort, Prod, Lam, App, Const, Ind, Con}
+use Rattle.mt_term.specs.Trees.{Match, Meta, End, Item, NoArm, Arm, Bytes}
 use Rattle.mt_term.specs.declared.universes.Sort.TheVariants.{Prop}
 
 -- a renaming under one more binder
@@ -78,7 +79,8 @@ sub σ t = tr Meta σ t
 abbrev pub one : Tree → ℕ → Tree
 one a = then_as a Var
 
--- the terms of a list, oldest first, for the variables; Prop past them (no typed term has such a variable)
+-- the terms of a list, oldest first, for the variables; Prop past them (no typed term has such a
+-- variable)
 abbrev pub fill : Trees → (ℕ → Tree) → ℕ → Tree
 fill End σ = σ
 fill (Item t s) σ = fill s (then_as t σ)
@@ -108,18 +110,7 @@ abbrev pub count : Trees → ℕ
 count End = zero
 count (Item t s) = suc (count s)
 
--- the variables from a place on are raised
-abbrev pub raise : ℕ → ℕ → ℕ → ℕ
-raise by zero i = i + by
-raise by (suc from) i = up_ren (raise by from) i
-
-abbrev pub lift : ℕ → ℕ → Tree → Tree
-lift by from t = ren (raise by from) t
-
--- u, which stands under the variables past the place, for the variable there; those past it go down by one
-abbrev pub put : ℕ → Tree → ℕ → Tree
-put zero u i = then_as u Var i
-put (suc at) u i = up (put at u) i
-
-abbrev pub substitute : ℕ → Tree → Tree → Tree
-substitute at u t = sub (put at u) t
+-- how many products stand at the front of a type
+abbrev pub products : Tree → ℕ
+products (Prod x A B) = suc (products B)
+products t = zero

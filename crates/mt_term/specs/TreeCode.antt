@@ -2,9 +2,12 @@
 use Rattle.std.specs.Prelude.{◌≡◌, refl}
 use Rattle.std.proofs.Common.{Box, Global}
 use Rattle.std.specs.Coded.{Coded, code_by}
-use Rattle.mt_term.specs.Trees.{Tree, Trees, Arms, Var, Sort, Prod, Lam, App, Const, Ind, Con, Match, Meta, End, Item, NoArm, Arm}
+use Rattle.mt_term.specs.Trees.{Tree, Trees, Arms, Var, Sort, Prod, Lam, App, Const, Ind, Con}
+use Rattle.mt_term.specs.Trees.{Match, Meta, End, Item, NoArm, Arm}
 use Rattle.mt_term.specs.TreeOf.{tree_of, trees_of, arms_of}
-use Rattle.mt_term.specs.declared.terms.Term.{Term, Var as TermVar, Sort as TermSort, Prod', Lam', App', Const as TermConst, Ind as TermInd, Con as TermCon, Match', Meta as TermMeta}
+use Rattle.mt_term.specs.declared.terms.Term.{Term, Var as TermVar, Sort as TermSort, Prod', Lam'}
+use Rattle.mt_term.specs.declared.terms.Term.{App', Const as TermConst, Ind as TermInd}
+use Rattle.mt_term.specs.declared.terms.Term.{Con as TermCon, Match', Meta as TermMeta}
 use Rattle.mt_term.specs.declared.terms.Terms.{Terms, End as TermsEnd, Item'}
 use Rattle.mt_term.specs.declared.terms.Branches.{Branches, End as NoBranch, Item' as Branch'}
 use Rattle.mt_term.specs.contracts.terms.Term as term

@@ -1,6 +1,9 @@
 -- The trees that the program's terms say.
-use Rattle.mt_term.specs.Trees.{Tree, Trees, Arms, Var, Sort, Prod, Lam, App, Const, Ind, Con, Match, Meta, End, Item, NoArm, Arm}
-use Rattle.mt_term.specs.declared.terms.Term.{Term, Var as TermVar, Sort as TermSort, Prod', Lam', App', Const as TermConst, Ind as TermInd, Con as TermCon, Match', Meta as TermMeta}
+use Rattle.mt_term.specs.Trees.{Tree, Trees, Arms, Var, Sort, Prod, Lam, App, Const, Ind, Con}
+use Rattle.mt_term.specs.Trees.{Match, Meta, End, Item, NoArm, Arm}
+use Rattle.mt_term.specs.declared.terms.Term.{Term, Var as TermVar, Sort as TermSort, Prod', Lam'}
+use Rattle.mt_term.specs.declared.terms.Term.{App', Const as TermConst, Ind as TermInd}
+use Rattle.mt_term.specs.declared.terms.Term.{Con as TermCon, Match', Meta as TermMeta}
 use Rattle.mt_term.specs.declared.terms.Terms.{Terms, End as TermsEnd, Item'}
 use Rattle.mt_term.specs.declared.terms.Branches.{Branches, End as NoBranch, Item' as Branch'}
 

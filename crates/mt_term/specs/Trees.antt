@@ -7,7 +7,8 @@ abbrev pub Bytes : Type 0
 Bytes = List ℕ
 
 mutual
-  -- variables are counted from the innermost binder; a match has its type's number, the return function, the matched term and the branches
+  -- variables are counted from the innermost binder; a match has its type's number, the return
+  -- function, the matched term and the branches
   pub data Tree : Type 0 where
     Var : ℕ → Tree
     Sort : AnySort → Tree

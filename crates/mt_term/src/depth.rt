@@ -6,17 +6,18 @@ ghost use Rattle.mt_term.specs.TreeOf.{tree_of, trees_of, arms_of};
 use crate::terms::{Branches, Term, Terms};
 use std::alloc::AllocError;
 
-/// How deep a term made by this crate may be. On a stack of 8 MiB a substitution goes down three times as deep, and a drop and a comparison fifteen times.
-pub const MOST_DEEP: usize = 2000;
+/// How deep a term made by this crate may be. On a stack of 8 MiB a substitution goes down three
+/// times as deep, and a drop and a comparison fifteen times.
+pub const MAX_DEPTH: usize = 2000;
 
 /// The depth that is left one step further down. Where there is none, memory is wanting.
-pub fn deeper(deep: usize) -> Result<usize, AllocError>
-    ensures { IfOk result (λ left. left + 1 ≡ deep) }
+pub fn deeper(depth_left: usize) -> Result<usize, AllocError>
+    ensures { IfOk result (λ left. left + 1 ≡ depth_left) }
 {
-    if deep == 0 {
+    if depth_left == 0 {
         return Err(AllocError);
     }
-    Ok(deep - 1)
+    Ok(depth_left - 1)
 }
 
 /// An index past further binders. Where no number is so large, memory is wanting.
@@ -26,54 +27,57 @@ pub(crate) fn past(index: usize, binders: usize) -> Result<usize, AllocError>
     index.checked_add(binders).ok_or(AllocError)
 }
 
-/// Whether a term is no deeper than so many steps. One that is put together by hand may be deeper than `MOST_DEEP`.
+/// Whether a term is no deeper than so many steps. One that is put together by hand may be deeper
+/// than `MAX_DEPTH`.
 #[cycle(depth)]
-pub fn is_within(t: &Term, deep: usize) -> bool
-    ensures { MatchBool result (depth (tree_of t.now) ≤ deep) (deep < depth (tree_of t.now)) }
+pub fn is_within(t: &Term, depth_left: usize) -> bool
+    ensures { MatchBool result (depth (tree_of t.now) ≤ depth_left) (depth_left < depth (tree_of t.now)) }
 {
-    if deep == 0 {
+    if depth_left == 0 {
         return false;
     }
-    let deep = deep - 1;
+    let depth_left = depth_left - 1;
     match t {
         Term::Var(_) | Term::Sort(_) | Term::Const(_) | Term::Ind(_) | Term::Con(_, _) => true,
-        Term::Prod(_, a, b) => is_within(a, deep) && is_within(b, deep),
-        Term::Lam(_, a, b) => is_within(a, deep) && is_within(b, deep),
-        Term::App(f, a) => is_within(f, deep) && is_within(a, deep),
+        Term::Prod(_, a, b) => is_within(a, depth_left) && is_within(b, depth_left),
+        Term::Lam(_, a, b) => is_within(a, depth_left) && is_within(b, depth_left),
+        Term::App(f, a) => is_within(f, depth_left) && is_within(a, depth_left),
         Term::Match(_, r, c, bs) => {
-            is_within(r, deep) && is_within(c, deep) && are_branches_within(bs, deep)
+            is_within(r, depth_left)
+                && is_within(c, depth_left)
+                && are_branches_within(bs, depth_left)
         }
-        Term::Meta(_, ts) => are_terms_within(ts, deep),
+        Term::Meta(_, ts) => are_terms_within(ts, depth_left),
     }
 }
 
 #[cycle(depth)]
-fn are_terms_within(ts: &Terms, deep: usize) -> bool
-    ensures { MatchBool result (depth_all (trees_of ts.now) ≤ deep)
-        (deep < depth_all (trees_of ts.now)) }
+fn are_terms_within(ts: &Terms, depth_left: usize) -> bool
+    ensures { MatchBool result (depth_all (trees_of ts.now) ≤ depth_left)
+        (depth_left < depth_all (trees_of ts.now)) }
 {
-    if deep == 0 {
+    if depth_left == 0 {
         return false;
     }
     match ts {
         Terms::End => true,
-        Terms::Item(t, ts) => is_within(t, deep - 1) && are_terms_within(ts, deep - 1),
+        Terms::Item(t, ts) => is_within(t, depth_left - 1) && are_terms_within(ts, depth_left - 1),
     }
 }
 
 #[cycle(depth)]
-fn are_branches_within(bs: &Branches, deep: usize) -> bool
-    ensures { MatchBool result (depth_arms (arms_of bs.now) ≤ deep)
-        (deep < depth_arms (arms_of bs.now)) }
+fn are_branches_within(bs: &Branches, depth_left: usize) -> bool
+    ensures { MatchBool result (depth_arms (arms_of bs.now) ≤ depth_left)
+        (depth_left < depth_arms (arms_of bs.now)) }
 {
-    if deep == 0 {
+    if depth_left == 0 {
         return false;
     }
     match bs {
         Branches::End => true,
         Branches::Item(b, bs) => {
             let branch = b;
-            is_within(&branch.body, deep - 1) && are_branches_within(bs, deep - 1)
+            is_within(&branch.body, depth_left - 1) && are_branches_within(bs, depth_left - 1)
         }
     }
 }

@@ -8,7 +8,8 @@ use crate::terms::Term;
 use std::alloc::{AllocError, AllocFailed, Global};
 use std::marker::Model;
 
-/// An entry of an environment. `place` is 0 for a corecursive function, and `made` marks a generated principle.
+/// An entry of an environment. `place` is 0 for a corecursive function, and `made` marks a
+/// generated principle.
 #[derive(Drop)]
 pub enum Entry {
     Axiom {

@@ -1,11 +1,10 @@
-//! Terms, environments and states as plain trees, and the definitions of the calculus that every layer cites.
+//! Terms, environments and states: the types that hold them, and the plain trees that they say.
 #![tactic(auto)]
 
 mod alikeness;
 mod constructors;
 mod copies;
 mod depth;
-pub mod derivations;
 mod entries;
 mod environment;
 mod equations;
@@ -14,7 +13,6 @@ mod lifting;
 mod modes;
 mod names;
 mod notes;
-pub mod reductions;
 mod refusals;
 mod replacement;
 mod states;
@@ -22,12 +20,13 @@ mod stores;
 mod substitution;
 mod terms;
 mod universe_forms;
+pub mod universe_laws;
 mod universes;
 
 pub use alikeness::alike;
 pub use constructors::{Cons, Constructor};
 pub use copies::{copy, copy_branches, copy_terms};
-pub use depth::{MOST_DEEP, deeper, is_within};
+pub use depth::{MAX_DEPTH, deeper, is_within};
 pub use entries::{Entries, Entry};
 pub use environment::{Pairs, PlainEnv};
 pub use equations::{PlainEq, PlainEqs};
@@ -40,7 +39,7 @@ pub use refusals::{Fault, Halt, Refusal, Stop};
 pub use states::{GoalMarks, PlainProof, PlainState};
 pub use std::alloc::AllocError as OutOfMemory;
 pub use stores::{Metas, PlainMeta, PlainStore};
-pub use substitution::{filled, substitute, under};
+pub use substitution::{fill, substitute, under};
 pub use terms::{Branch, Branches, Term, Terms};
-pub use universe_forms::{maximum, normal_form, raised};
+pub use universe_forms::{maximum, normal_form, successor};
 pub use universes::{Atom, Atoms, Sort, UnivExpr};

@@ -1,6 +1,6 @@
 // Why a unit of a script is refused, and why a call stops.
 ghost use Rattle.std.specs.Prelude.{◌≡◌};
-ghost use Rattle.mt_term.specs.Declarations.{number_of};
+ghost use Rattle.mt_term.specs.Reasons.{number_of};
 ghost use Rattle.mt_term.specs.ReasonOf.{reason_of};
 ghost use Rattle.mt_term.specs.declared.refusals.Stop.TheVariants.{OutOfMemory};
 ghost use Rattle.mt_term.specs.declared.refusals.Halt.TheVariants.{OutOfMemory as HaltOutOfMemory};
@@ -26,7 +26,8 @@ pub enum Refusal {
     Unbound(Name),
     /// A name is in use.
     Taken(Name),
-    /// The inferred type does not meet the expected one. `known` holds the entries that were taken as known past the environment of the state.
+    /// The inferred type does not meet the expected one. `known` holds the entries that were taken
+    /// as known past the environment of the state.
     Mismatch {
         context: Hyps,
         inferred: Term,

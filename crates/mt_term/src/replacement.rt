@@ -6,13 +6,14 @@ ghost use Rattle.mt_term.specs.Substitution.{fill};
 ghost use Rattle.mt_term.specs.Trees.{Tree};
 ghost use Rattle.mt_term.specs.TreeOf.{tree_of, trees_of};
 
-use crate::depth::{MOST_DEEP, deeper, past};
+use crate::depth::{MAX_DEPTH, deeper, past};
 use crate::lifting::lift_within;
 use crate::terms::{Term, Terms};
 use crate::universes::Sort;
 use std::alloc::{AllocError, Global};
 
-// One term for variable 0, with the others going down by one; or terms, the oldest first, for as many variables, and for those past them Prop or what is left of them.
+// One term for variable 0, with the others going down by one; or terms, the oldest first, for as
+// many variables, and for those past them Prop or what is left of them.
 #[derive(Clone, Copy)]
 pub(crate) enum Replacement<'a> {
     One(&'a Term),
@@ -28,13 +29,13 @@ enum Place<'a> {
 }
 
 // The newest term stands for variable 0.
-fn find(ts: &Terms, i: usize, deep: usize) -> Result<Place<'_>, AllocError>
+fn find(ts: &Terms, i: usize, depth_left: usize) -> Result<Place<'_>, AllocError>
     ensures { IfOk result (λ p. (σ : ℕ → Tree) → fill (trees_of ts.now) σ i ≡ at_place σ p) }
 {
-    let deep = deeper(deep)?;
+    let depth_left = deeper(depth_left)?;
     match ts {
         Terms::End => Ok(Place::Past(i)),
-        Terms::Item(t, ts) => match find(ts, i, deep)? {
+        Terms::Item(t, ts) => match find(ts, i, depth_left)? {
             Place::Found(u) => Ok(Place::Found(u)),
             Place::Past(0) => Ok(Place::Found(t)),
             Place::Past(further) => Ok(Place::Past(further - 1)),
@@ -43,12 +44,12 @@ fn find(ts: &Terms, i: usize, deep: usize) -> Result<Place<'_>, AllocError>
 }
 
 // What stands for a free variable, lifted by the binders passed.
-pub(crate) fn replaced(
+pub(crate) fn term_for_variable(
     alloc: Global,
     by: Replacement<'_>,
     i: usize,
     binders: usize,
-    deep: usize,
+    depth_left: usize,
 ) -> Result<Term, AllocError>
     requires { binders ≤ i }
     ensures { IfOk result (λ u. tree_of u ≡ lift_past binders 0 (replacement by.entry (i - binders))) }
@@ -57,17 +58,17 @@ pub(crate) fn replaced(
     match by {
         Replacement::One(u) => {
             if free == 0 {
-                lift_within(alloc, u, binders, 0, deep)
+                lift_within(alloc, u, binders, 0, depth_left)
             } else {
                 Ok(Term::Var(i - 1))
             }
         }
-        Replacement::Under(ts) => match find(ts, free, MOST_DEEP)? {
-            Place::Found(u) => lift_within(alloc, u, binders, 0, deep),
+        Replacement::Under(ts) => match find(ts, free, MAX_DEPTH)? {
+            Place::Found(u) => lift_within(alloc, u, binders, 0, depth_left),
             Place::Past(_) => Ok(Term::Sort(Sort::Prop)),
         },
-        Replacement::Filled(ts) => match find(ts, free, MOST_DEEP)? {
-            Place::Found(u) => lift_within(alloc, u, binders, 0, deep),
+        Replacement::Filled(ts) => match find(ts, free, MAX_DEPTH)? {
+            Place::Found(u) => lift_within(alloc, u, binders, 0, depth_left),
             Place::Past(further) => Ok(Term::Var(past(further, binders)?)),
         },
     }

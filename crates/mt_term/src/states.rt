@@ -67,7 +67,8 @@ pub struct PlainProof {
     pub goals: GoalMarks,
 }
 
-/// A state: what is accepted, the store, the open proof where there is one, how many units were accepted and where the last one ends.
+/// A state: what is accepted, the store, the open proof where there is one, how many units were
+/// accepted and where the last one ends.
 #[derive(Drop)]
 pub struct PlainState {
     pub env: PlainEnv,

@@ -10,7 +10,8 @@ pub struct Branch {
     pub body: Term,
 }
 
-/// A term. `Var(0)` is the innermost variable. A match names its inductive type, then the return function, then the matched term. A metavariable has one term per hypothesis, oldest first.
+/// A term. `Var(0)` is the innermost variable. A match names its inductive type, then the motive,
+/// then the matched term. A metavariable has one term per hypothesis, oldest first.
 #[derive(Drop)]
 #[cycle(term)]
 pub enum Term {

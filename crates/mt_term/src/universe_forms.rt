@@ -1,7 +1,7 @@
 // Normal forms of universe expressions, their maximum, and the expression of the values one higher.
 ghost use Rattle.std.specs.Prelude.{◌≡◌, ◌||◌, if◌then◌else◌, ◌^◌, ◌<◌, ◌≤◌, ◌++◌, true, false, length, take, drop, slice_index_or, MatchOption, SomeIff, IfOk, OnOk, OnErr};
 ghost use Rattle.std.specs.List.{list_all};
-ghost use Rattle.mt_term.specs.Universes.{with_atom, with_atoms, reaches, normal_form, maximum, fits_atom, raised_atoms, raised_base, raised};
+ghost use Rattle.mt_term.specs.UniverseForms.{with_atom, with_atoms, is_below_an_atom, normal_form, maximum, fits_atom, raised_atoms, raised_base, raised};
 
 use crate::universes::{Atom, Atoms, UnivExpr};
 use std::alloc::{AllocError, AllocFailed, Global};
@@ -53,30 +53,31 @@ fn add_atoms(atoms: &mut Vec<Atom>, more: &[Atom]) -> Result<(), AllocError>
 }
 
 /// Whether some offset is at least a number.
-fn reaches(base: u32, atoms: &[Atom]) -> bool
-    ensures { result ≡ reaches base atoms.now }
+fn is_below_an_atom(base: u32, atoms: &[Atom]) -> bool
+    ensures { result ≡ is_below_an_atom base atoms.now }
 {
     atoms.iter().any(|a| base <= a.offset)
 }
 
 /// A base beside atoms: 0 where some offset is at least the base.
 fn base_beside(base: u32, atoms: &[Atom], more: &[Atom]) -> u32
-    ensures { result ≡ (if reaches base atoms.now || reaches base more.now then 0 else base) }
+    ensures { result ≡ (if is_below_an_atom base atoms.now || is_below_an_atom base more.now then 0 else base) }
 {
-    if reaches(base, atoms) || reaches(base, more) {
+    if is_below_an_atom(base, atoms) || is_below_an_atom(base, more) {
         0
     } else {
         base
     }
 }
 
-/// The normal form of a base and atoms: one atom for each name, by the names' numbers, and base 0 where some offset is at least the base.
+/// The normal form of a base and atoms: one atom for each name, by the names' numbers, and base 0
+/// where some offset is at least the base.
 pub fn normal_form(alloc: Global, u: &UnivExpr) -> Result<UnivExpr, AllocError>
     ensures { IfOk result (λ n. n ≡ normal_form u.now) }
 {
     let mut atoms = Vec::new(alloc);
     add_atoms(&mut atoms, u.atoms.as_slice())?;
-    let base = if reaches(u.base, u.atoms.as_slice()) {
+    let base = if is_below_an_atom(u.base, u.atoms.as_slice()) {
         0
     } else {
         u.base
@@ -132,7 +133,7 @@ fn raised_base(base: u32, atoms: &[Atom]) -> Option<u32>
 }
 
 /// The expression of the values one higher; none where a number would pass 4,294,967,295.
-pub fn raised(alloc: Global, u: &UnivExpr) -> Result<Option<UnivExpr>, AllocError>
+pub fn successor(alloc: Global, u: &UnivExpr) -> Result<Option<UnivExpr>, AllocError>
     ensures { IfOk result (λ r. r ≡ raised u.now) }
 {
     let atoms = match raised_atoms(alloc, u.atoms.as_slice())? {

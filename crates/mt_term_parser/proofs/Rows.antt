@@ -1,7 +1,7 @@
 -- Parts in a row, a part at a time.
 use Rattle.std.proofs.Common.{◌≡◌, ℕ, zero, suc, ◌+◌, ◌-◌, ◌<◌, ◌≤◌, Bool, true, false, List, [], ◌∷◌, ◌++◌, length, map, refl, sym, ap, ◌∙◌, subst, arith}
 use Rattle.std.proofs.lemmas.List.{append_assoc, append-nil}
-use Rattle.mt_term.specs.Declarations.{Reason}
+use Rattle.mt_term.specs.Reasons.{Reason}
 use Rattle.mt_term.specs.ReasonOf.{reason_of}
 use Rattle.mt_term.specs.declared.refusals.Halt.{Halt}
 use Rattle.mt_term.specs.declared.refusals.Halt.TheVariants as halt

@@ -1,16 +1,21 @@
 -- The grammar of terms. A reading has the room for terms within terms that is left.
-use Rattle.std.specs.Prelude.{ℕ, zero, suc, ◌-◌, Bool, true, false, ◌==◌, if◌then◌else◌, List, [], ◌∷◌, codes}
+use Rattle.std.specs.Prelude.{ℕ, zero, suc, ◌-◌, Bool, true, false, ◌==◌, if◌then◌else◌, List, []}
+use Rattle.std.specs.Prelude.{◌∷◌, codes}
 use Rattle.mt_lexer.specs.declared.Token.{Token}
 use Rattle.mt_lexer.specs.declared.TokenKind.{TokenKind}
 use Rattle.mt_lexer.specs.declared.TokenKind.TheVariants as kind
-use Rattle.mt_term.specs.Declarations.{Syntax, TooDeep}
+use Rattle.mt_term.specs.Reasons.{Syntax, TooDeep}
 use Rattle.mt_term_parser.specs.declared.raw.Part.{Part}
 use Rattle.mt_term_parser.specs.declared.raw.Part.TheVariants as part
 use Rattle.mt_term_parser.specs.declared.raw.RawSort.TheVariants as sort
 use Rattle.mt_term_parser.specs.declared.terms.Lead.{Lead}
 use Rattle.mt_term_parser.specs.declared.terms.Lead.TheVariants as lead
-use Rattle.mt_term_parser.specs.Written.{Written, WrittenArm, Domain, Arguments, Cases, Term, Name, Hole, Vector, Sort, Lam, Prod, App, Match, Cast, Absent, Given, NoArgument, Argument, NoCase, Case}
-use Rattle.mt_term_parser.specs.Readings.{Reading, Got, Stops, then_read, many_from, needed, word_of, sign_of, is_word, is_name, is_name_kind, sign, word, name, binder, number, sees, sees_sign, sees_word}
+use Rattle.mt_term_parser.specs.Written.{Written, WrittenArm, Domain, Arguments, Cases, Term, Name}
+use Rattle.mt_term_parser.specs.Written.{Hole, Vector, Sort, Lam, Prod, App, Match, Cast, Absent}
+use Rattle.mt_term_parser.specs.Written.{Given, NoArgument, Argument, NoCase, Case}
+use Rattle.mt_term_parser.specs.Readings.{Reading, Got, Stops, then_read, many_from, needed}
+use Rattle.mt_term_parser.specs.Readings.{word_of, sign_of, is_word, is_name, is_name_kind, sign}
+use Rattle.mt_term_parser.specs.Readings.{word, name, binder, number, sees, sees_sign, sees_word}
 
 -- ---- what a token begins
 
@@ -68,11 +73,14 @@ separated c text one at =
 -- ---- sorts
 
 abbrev pub offset : List ℕ → ℕ → Reading ℕ
-offset text at = if sees_sign 43 text at then then_read (sign 43 text at) (λ _ a. number text a) else Got 0 at
+offset text at =
+    if sees_sign 43 text at then then_read (sign 43 text at) (λ _ a. number text a) else Got 0 at
 
 abbrev pub raised_part : List ℕ → Token → Reading Part
 raised_part text t =
-    if is_name text t then then_read (offset text t.end) (λ k end. Got (part.Name (word_of text t) k) end) else Stops Syntax t.start
+    if is_name text t
+    then then_read (offset text t.end) (λ k end. Got (part.Name (word_of text t) k) end)
+    else Stops Syntax t.start
 
 abbrev pub part_by : List ℕ → Token → TokenKind → Reading Part
 part_by text t (kind.Number n) = Got (part.Number n) t.end
@@ -94,7 +102,9 @@ parts text at =
 -- the type after a colon, if there is one
 abbrev pub domain : (ℕ → Reading Written) → List ℕ → ℕ → Reading Domain
 domain inner text at =
-    if sees_sign 58 text at then then_read (sign 58 text at) (λ _ a. then_read (inner a) (λ A end. Got (Given A) end)) else Got Absent at
+    if sees_sign 58 text at
+    then then_read (sign 58 text at) (λ _ a. then_read (inner a) (λ A end. Got (Given A) end))
+    else Got Absent at
 
 -- x [":" term] "." term
 abbrev pub lambda : (ℕ → Reading Written) → List ℕ → ℕ → ℕ → Reading Written
@@ -141,12 +151,14 @@ arm inner text at =
 
 -- [arm { "|" arm }]
 abbrev pub arms : (ℕ → Reading Written) → List ℕ → ℕ → Reading (List WrittenArm)
-arms inner text at = if sees (is_name text) text at then separated 124 text (arm inner text) at else Got [] at
+arms inner text at =
+    if sees (is_name text) text at then separated 124 text (arm inner text) at else Got [] at
 
 abbrev pub returned : (ℕ → Reading Written) → List ℕ → ℕ → Reading Domain
 returned inner text at =
     if sees_word (codes "return") text at then
-    then_read (word (codes "return") text at) (λ _ a. then_read (inner a) (λ R end. Got (Given R) end)) else Got Absent at
+    then_read (word (codes "return") text at) (λ _ a. then_read (inner a) (λ R end. Got (Given R) end))
+    else Got Absent at
 
 -- "with" "[" [arm { "|" arm }] "]"
 abbrev pub body_of_match : (ℕ → Reading Written) → List ℕ → ℕ → Reading (List WrittenArm)
@@ -168,7 +180,8 @@ abbrev pub atom_by : Lead → (ℕ → Reading Written) → List ℕ → Token �
 atom_by lead.Name inner text t = Got (Term t.start (Name (word_of text t))) t.end
 atom_by lead.Hole inner text t = Got (Term t.start Hole) t.end
 atom_by lead.Prop inner text t = Got (Term t.start (Sort sort.Prop)) t.end
-atom_by lead.Type inner text t = then_read (parts text t.end) (λ ps end. Got (Term t.start (Sort (sort.Typ ps))) end)
+atom_by lead.Type inner text t =
+    then_read (parts text t.end) (λ ps end. Got (Term t.start (Sort (sort.Typ ps))) end)
 atom_by lead.Open inner text t = parenthesis inner text t.start t.end
 atom_by lead.Match inner text t = matched inner text t.start t.end
 atom_by _ inner text t = Stops Syntax t.start
@@ -179,7 +192,8 @@ argument_by l inner text t = atom_by l inner text t
 
 -- atom | "…"
 abbrev pub argument : (ℕ → Reading Written) → List ℕ → ℕ → Reading Written
-argument inner text at = then_read (needed text at) (λ t _. argument_by (lead_of text t) inner text t)
+argument inner text at =
+    then_read (needed text at) (λ t _. argument_by (lead_of text t) inner text t)
 
 abbrev pub arguments_onto : List Written → Arguments → Arguments
 arguments_onto [] more = more
@@ -204,7 +218,8 @@ abbrev pub arrow : (ℕ → Reading Written) → List ℕ → Token → Reading 
 arrow inner text t =
     then_read (app inner text t) (λ A a.
     if sees_sign 0x2192 text a then
-    then_read (sign 0x2192 text a) (λ _ b. then_read (inner b) (λ B end. Got (Term t.start (Prod (codes "_") A B)) end)) else Got A a)
+    then_read (sign 0x2192 text a) (λ _ b. then_read (inner b) (λ B end. Got (Term t.start (Prod (codes "_") A B)) end))
+    else Got A a)
 
 abbrev pub term_by : Lead → (ℕ → Reading Written) → List ℕ → Token → Reading Written
 term_by lead.Lambda inner text t = lambda inner text t.start t.end
@@ -219,7 +234,8 @@ full l t = Stops (if begins_term l then TooDeep else Syntax) t.start
 -- a term, where this many terms may be open, it among them
 abbrev pub term : ℕ → List ℕ → ℕ → Reading Written
 term zero text at = then_read (needed text at) (λ t _. full (lead_of text t) t)
-term (suc room) text at = then_read (needed text at) (λ t _. term_by (lead_of text t) (term room text) text t)
+term (suc room) text at =
+    then_read (needed text at) (λ t _. term_by (lead_of text t) (term room text) text t)
 
 -- a term at a place within so many terms and sequences
 abbrev pub term_at : List ℕ → ℕ → ℕ → Reading Written

@@ -1,5 +1,7 @@
 -- How parts of a text are read: each from the place where the one before it ends.
-use Rattle.std.specs.Prelude.{◌≡◌, ℕ, zero, suc, ◌-◌, ◌<◌, Bool, true, false, not, ◌&&◌, ◌==◌, if◌then◌else◌, List, [], ◌∷◌, length, take, drop, slice_index, bytes_eq, codes, Option, Some, None, Result, Ok, Err, MatchResult}
+use Rattle.std.specs.Prelude.{◌≡◌, ℕ, zero, suc, ◌-◌, ◌<◌, Bool, true, false, not, ◌&&◌, ◌==◌}
+use Rattle.std.specs.Prelude.{if◌then◌else◌, List, [], ◌∷◌, length, take, drop, slice_index}
+use Rattle.std.specs.Prelude.{bytes_eq, codes, Option, Some, None, Result, Ok, Err, MatchResult}
 use Rattle.std.specs.Str.{IsCharBoundary}
 use Rattle.mt_lexer.specs.declared.Token.{Token}
 use Rattle.mt_lexer.specs.declared.TokenKind.{TokenKind}
@@ -7,7 +9,7 @@ use Rattle.mt_lexer.specs.declared.TokenKind.TheVariants as kind
 use Rattle.mt_lexer.specs.declared.LexStop.{LexStop}
 use Rattle.mt_lexer.specs.declared.LexStop.TheVariants as lex
 use Rattle.mt_lexer.specs.Tokens.{chars_from, next_token}
-use Rattle.mt_term.specs.Declarations.{Reason, Lex, Syntax, Incomplete}
+use Rattle.mt_term.specs.Reasons.{Reason, Lex, Syntax, Incomplete}
 use Rattle.mt_term.specs.ReasonOf.{reason_of}
 use Rattle.mt_term.specs.declared.refusals.Halt.{Halt}
 use Rattle.mt_term.specs.declared.refusals.Halt.TheVariants as halt
@@ -27,7 +29,8 @@ abbrev pub many : {A : Type 0} → (ℕ → Bool) → (ℕ → Reading A) → �
 many sees one zero at = Got [] at
 many sees one (suc bound) at =
     elim (sees at) [
-      | true ↦ then_read (one at) (λ a end. then_read (many sees one bound end) (λ more last. Got (a ∷ more) last))
+      | true ↦ then_read (one at)
+          (λ a end. then_read (many sees one bound end) (λ more last. Got (a ∷ more) last))
       | false ↦ Got [] at
     ]
 
@@ -60,7 +63,8 @@ sign_from c = if c == 45 then 0x2192 else (if c == 61 then 0x21D2 else c)
 
 -- `fun` is `λ`, and `forall` is `∀`
 abbrev pub sign_spelled : List ℕ → ℕ
-sign_spelled w = if bytes_eq w (codes "fun") then 0x3BB else (if bytes_eq w (codes "forall") then 0x2200 else 0)
+sign_spelled w =
+    if bytes_eq w (codes "fun") then 0x3BB else (if bytes_eq w (codes "forall") then 0x2200 else 0)
 
 abbrev pub sign_by : TokenKind → List ℕ → Token → ℕ
 sign_by kind.Sign text t = sign_from (slice_index (chars_from text t.start) 0)

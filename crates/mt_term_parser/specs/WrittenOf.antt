@@ -1,13 +1,18 @@
 -- What the program's raw terms say.
 use Rattle.std.specs.Prelude.{Option, Some, None}
 use Rattle.std.proofs.Common.{Box, Global}
-use Rattle.mt_term_parser.specs.Written.{Written, WrittenArm, Form, Domain, Arguments, Cases, Term, Name, Con, Hole, Vector, Sort, Lam, Prod, App, Match, Cast, Absent, Given, NoArgument, Argument, NoCase, Case}
+use Rattle.mt_term_parser.specs.Written.{Written, WrittenArm, Form, Domain, Arguments, Cases, Term}
+use Rattle.mt_term_parser.specs.Written.{Name, Con, Hole, Vector, Sort, Lam, Prod, App, Match, Cast}
+use Rattle.mt_term_parser.specs.Written.{Absent, Given, NoArgument, Argument, NoCase, Case}
 use Rattle.mt_term_parser.specs.declared.raw.Raw.{Raw}
 use Rattle.mt_term_parser.specs.declared.raw.Arm.{Arm}
-use Rattle.mt_term_parser.specs.declared.raw.RawShape.{RawShape, Name as RawName, Con as RawCon, Hole as RawHole, Vector as RawVector, Sort as RawSort, Lam', Prod', App', Match', Cast'}
+use Rattle.mt_term_parser.specs.declared.raw.RawShape.{RawShape, Name as RawName, Con as RawCon}
+use Rattle.mt_term_parser.specs.declared.raw.RawShape.{Hole as RawHole, Vector as RawVector}
+use Rattle.mt_term_parser.specs.declared.raw.RawShape.{Sort as RawSort, Lam', Prod', App', Match'}
+use Rattle.mt_term_parser.specs.declared.raw.RawShape.{Cast'}
 use Rattle.mt_term_parser.specs.declared.raw.RawShape as shape
 use Rattle.mt_term_parser.specs.declared.raw.Raws.{Raws, End as NoRaw, Item' as RawItem'}
-use Rattle.mt_term_parser.specs.declared.raw.Arms.{Arms, End as NoArm, Item' as Arm'}
+use Rattle.mt_term_parser.specs.declared.raw.RawArms.{RawArms as Arms, End as NoArm, Item' as Arm'}
 
 abbrev mutual
   pub form_of : RawShape → Form
@@ -32,7 +37,8 @@ abbrev mutual
 
   pub cases_of : Arms → Cases
   cases_of NoArm = NoCase
-  cases_of (Arm' p name binders start body q arms) = Case name binders (Term start (form_of body)) (cases_of arms)
+  cases_of (Arm' p name binders start body q arms) =
+      Case name binders (Term start (form_of body)) (cases_of arms)
 
 abbrev pub written_of : Raw → Written
 written_of r = Term r.start (form_of r.shape)

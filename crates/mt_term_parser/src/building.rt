@@ -4,11 +4,11 @@ ghost use Rattle.mt_term_parser.specs.Written.{Term, Lam, Prod, Match, Argument}
 ghost use Rattle.mt_term_parser.specs.WrittenOf.{written_of, arguments_of, cases_of, choice_of, case_of};
 ghost use Rattle.mt_term_parser.specs.Grammar.{arguments, applied, cases, cases_onto, cast};
 
-use crate::raw::{Arm, Arms, Raw, RawShape, Raws};
+use crate::raw::{Arm, Raw, RawArms, RawShape, Raws};
 use mt_term::Name;
 use std::alloc::{AllocError, Global};
 
-pub fn boxed(alloc: Global, raw: Raw) -> Result<Box<Raw>, AllocError>
+pub fn in_box(alloc: Global, raw: Raw) -> Result<Box<Raw>, AllocError>
     ensures { IfOk result (λ b. b.value ≡ raw) }
 {
     Ok(Box::new(alloc, raw)?)
@@ -23,7 +23,7 @@ pub fn lam(
 ) -> Result<Raw, AllocError>
     ensures { IfOk result (λ r. written_of r ≡ Term start (Lam name (choice_of domain) (written_of body))) }
 {
-    let body = boxed(alloc, body)?;
+    let body = in_box(alloc, body)?;
     Ok(Raw {
         start,
         shape: RawShape::Lam(name, domain, body),
@@ -39,8 +39,8 @@ pub fn prod(
 ) -> Result<Raw, AllocError>
     ensures { IfOk result (λ r. written_of r ≡ Term start (Prod name (written_of domain) (written_of body))) }
 {
-    let domain = boxed(alloc, domain)?;
-    let body = boxed(alloc, body)?;
+    let domain = in_box(alloc, domain)?;
+    let body = in_box(alloc, body)?;
     Ok(Raw {
         start,
         shape: RawShape::Prod(name, domain, body),
@@ -54,7 +54,7 @@ pub fn cast(alloc: Global, start: usize, term: Raw, ty: Option<Box<Raw>>) -> Res
     let Some(ty) = ty else {
         return Ok(term);
     };
-    let term = boxed(alloc, term)?;
+    let term = in_box(alloc, term)?;
     Ok(Raw {
         start,
         shape: RawShape::Cast(term, ty),
@@ -62,7 +62,7 @@ pub fn cast(alloc: Global, start: usize, term: Raw, ty: Option<Box<Raw>>) -> Res
 }
 
 // A function on its arguments, if there are any.
-pub fn applied(
+pub fn application_of(
     alloc: Global,
     start: usize,
     function: Raw,
@@ -74,7 +74,7 @@ pub fn applied(
         return Ok(function);
     }
     let args = raws_of(alloc, args)?;
-    let function = boxed(alloc, function)?;
+    let function = in_box(alloc, function)?;
     Ok(Raw {
         start,
         shape: RawShape::App(function, args),
@@ -94,12 +94,12 @@ fn raws_of(alloc: Global, mut items: Vec<Raw>) -> Result<Raws, AllocError>
 fn raws_item(alloc: Global, raw: Raw, rest: Raws) -> Result<Raws, AllocError>
     ensures { IfOk result (λ r. arguments_of r ≡ Argument (written_of raw) (arguments_of rest)) }
 {
-    let raw = boxed(alloc, raw)?;
+    let raw = in_box(alloc, raw)?;
     let rest = Box::new(alloc, rest)?;
     Ok(Raws::Item(raw, rest))
 }
 
-pub fn matched(
+pub fn match_of(
     alloc: Global,
     start: usize,
     term: Raw,
@@ -109,27 +109,27 @@ pub fn matched(
     ensures { IfOk result (λ r. written_of r ≡ Term start (Match (written_of term) (choice_of returned) (cases (map case_of arms.items)))) }
 {
     let arms = arms_of(alloc, arms)?;
-    let term = boxed(alloc, term)?;
+    let term = in_box(alloc, term)?;
     Ok(Raw {
         start,
         shape: RawShape::Match(term, returned, arms),
     })
 }
 
-fn arms_of(alloc: Global, mut items: Vec<Arm>) -> Result<Arms, AllocError>
+fn arms_of(alloc: Global, mut items: Vec<Arm>) -> Result<RawArms, AllocError>
     ensures { IfOk result (λ r. cases_of r ≡ cases (map case_of items.items)) }
 {
-    let mut arms = Arms::End;
+    let mut arms = RawArms::End;
     'row: while let Some(arm) = items.pop() {
         arms = arms_item(alloc, arm, arms)?;
     }
     Ok(arms)
 }
 
-fn arms_item(alloc: Global, arm: Arm, rest: Arms) -> Result<Arms, AllocError>
+fn arms_item(alloc: Global, arm: Arm, rest: RawArms) -> Result<RawArms, AllocError>
     ensures { IfOk result (λ r. cases_of r ≡ cases_onto (case_of arm ∷ []) (cases_of rest)) }
 {
     let arm = Box::new(alloc, arm)?;
     let rest = Box::new(alloc, rest)?;
-    Ok(Arms::Item(arm, rest))
+    Ok(RawArms::Item(arm, rest))
 }

@@ -7,5 +7,5 @@ pub mod readings;
 mod sorts;
 mod terms;
 
-pub use raw::{Arm, Arms, Part, Parts, Raw, RawShape, RawSort, Raws};
+pub use raw::{Arm, Part, Parts, Raw, RawArms, RawShape, RawSort, Raws};
 pub use terms::term_at;

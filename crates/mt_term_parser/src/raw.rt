@@ -26,7 +26,7 @@ pub enum RawShape {
     Lam(Name, Option<Box<Raw>>, Box<Raw>),
     Prod(Name, Box<Raw>, Box<Raw>),
     App(Box<Raw>, Raws),
-    Match(Box<Raw>, Option<Box<Raw>>, Arms),
+    Match(Box<Raw>, Option<Box<Raw>>, RawArms),
     Cast(Box<Raw>, Box<Raw>),
 }
 
@@ -50,9 +50,9 @@ pub struct Arm {
 /// The arms of a match, in order.
 #[derive(Drop)]
 #[cycle(raw)]
-pub enum Arms {
+pub enum RawArms {
     End,
-    Item(Box<Arm>, Box<Arms>),
+    Item(Box<Arm>, Box<RawArms>),
 }
 
 /// A sort as it is written.

@@ -9,7 +9,7 @@ use mt_term::{Fault, Halt, Name, Names, Refusal};
 use std::alloc::{AllocError, Global};
 
 /// The next token, which is needed.
-pub fn needed(text: &str, at: usize) -> Result<Token, Halt>
+pub fn require_token(text: &str, at: usize) -> Result<Token, Halt>
     requires { IsCharBoundary text.now at }
     ensures reads { MatchResult result (λ t. needed text.now at ≡ Got t t.end) (HaltsAs (needed text.now at)) }
     ensures placed { IfOk result (IsPlaced text.now at) }
@@ -19,25 +19,25 @@ pub fn needed(text: &str, at: usize) -> Result<Token, Halt>
 {
     match next(text, at) {
         Ok(token) => match token.kind {
-            TokenKind::End => Err(refused(Refusal::Incomplete, token.start)),
+            TokenKind::End => Err(refusal_at(Refusal::Incomplete, token.start)),
             _ => Ok(token),
         },
-        Err(LexStop::Lex(at)) => Err(refused(Refusal::Lex, at)),
-        Err(LexStop::Incomplete(at)) => Err(refused(Refusal::Incomplete, at)),
+        Err(LexStop::Lex(at)) => Err(refusal_at(Refusal::Lex, at)),
+        Err(LexStop::Incomplete(at)) => Err(refusal_at(Refusal::Incomplete, at)),
     }
 }
 
-fn refused(refusal: Refusal, at: usize) -> Halt
+fn refusal_at(refusal: Refusal, at: usize) -> Halt
     ensures { result ≡ Halt.Refused (record { refusal = refusal; at = at }) }
 {
     Halt::Refused(Fault { refusal, at })
 }
 
 /// A token that cannot stand there.
-pub fn misplaced(token: &Token) -> Halt
+pub fn misplacement(token: &Token) -> Halt
     ensures { result ≡ Halt.Refused (record { refusal = Refusal.Syntax; at = token.now.start }) }
 {
-    refused(Refusal::Syntax, token.start)
+    refusal_at(Refusal::Syntax, token.start)
 }
 
 /// The text of a token.
@@ -135,11 +135,11 @@ pub fn sign_at(wanted: char, text: &str, at: usize) -> Result<usize, Halt>
     ensures end { IfOk result (IsEnd text.now at) }
     ensures stop { IfErr result (StopsInText text.now) }
 {
-    let token = needed(text, at)?;
+    let token = require_token(text, at)?;
     if sign_of(text, &token) == wanted {
         Ok(token.end)
     } else {
-        Err(misplaced(&token))
+        Err(misplacement(&token))
     }
 }
 
@@ -150,11 +150,11 @@ pub fn word_at(wanted: &str, text: &str, at: usize) -> Result<usize, Halt>
     ensures end { IfOk result (IsEnd text.now at) }
     ensures stop { IfErr result (StopsInText text.now) }
 {
-    let token = needed(text, at)?;
+    let token = require_token(text, at)?;
     if is_word(wanted, text, &token) {
         Ok(token.end)
     } else {
-        Err(misplaced(&token))
+        Err(misplacement(&token))
     }
 }
 
@@ -165,11 +165,11 @@ pub fn name_at(alloc: Global, text: &str, at: usize) -> Result<(Name, usize), Ha
     ensures end { IfOk result (λ p. IsEnd text.now at p.1) }
     ensures stop { IfErr result (StopsInText text.now) }
 {
-    let token = needed(text, at)?;
+    let token = require_token(text, at)?;
     if is_name(text, &token) {
         Ok((name_of(alloc, text, &token)?, token.end))
     } else {
-        Err(misplaced(&token))
+        Err(misplacement(&token))
     }
 }
 
@@ -180,11 +180,11 @@ pub fn binder_at(alloc: Global, text: &str, at: usize) -> Result<(Name, usize), 
     ensures end { IfOk result (λ p. IsEnd text.now at p.1) }
     ensures stop { IfErr result (StopsInText text.now) }
 {
-    let token = needed(text, at)?;
+    let token = require_token(text, at)?;
     if is_name_kind(&token) {
         Ok((name_of(alloc, text, &token)?, token.end))
     } else {
-        Err(misplaced(&token))
+        Err(misplacement(&token))
     }
 }
 
@@ -205,15 +205,15 @@ pub fn number_at(text: &str, at: usize) -> Result<(u32, usize), Halt>
     ensures end { IfOk result (λ p. IsEnd text.now at p.1) }
     ensures stop { IfErr result (StopsInText text.now) }
 {
-    let token = needed(text, at)?;
+    let token = require_token(text, at)?;
     match token.kind {
         TokenKind::Number(value) => Ok((value, token.end)),
-        _ => Err(misplaced(&token)),
+        _ => Err(misplacement(&token)),
     }
 }
 
 /// The next token, if there is one.
-pub fn seen(text: &str, at: usize) -> Option<Token>
+pub fn peek_token(text: &str, at: usize) -> Option<Token>
     requires { IsCharBoundary text.now at }
     ensures value { result ≡ seen text.now at }
     ensures placed { IfSome result (IsPlaced text.now at) }
@@ -234,7 +234,7 @@ pub fn sees_sign(wanted: char, text: &str, at: usize) -> bool
     ensures value { result ≡ sees_sign wanted text.now at }
     ensures inside { IsTrue result → at < length text.now }
 {
-    match seen(text, at) {
+    match peek_token(text, at) {
         Some(token) => sign_of(text, &token) == wanted,
         None => false,
     }
@@ -246,7 +246,7 @@ pub fn sees_word(wanted: &str, text: &str, at: usize) -> bool
     ensures value { result ≡ sees_word wanted.now text.now at }
     ensures inside { IsTrue result → at < length text.now }
 {
-    match seen(text, at) {
+    match peek_token(text, at) {
         Some(token) => is_word(wanted, text, &token),
         None => false,
     }
@@ -258,7 +258,7 @@ pub fn sees_name(text: &str, at: usize) -> bool
     ensures value { result ≡ sees (is_name text.now) text.now at }
     ensures inside { IsTrue result → at < length text.now }
 {
-    match seen(text, at) {
+    match peek_token(text, at) {
         Some(token) => is_name(text, &token),
         None => false,
     }
@@ -270,7 +270,7 @@ pub fn sees_binder(text: &str, at: usize) -> bool
     ensures value { result ≡ sees (λ t. is_name_kind t.kind) text.now at }
     ensures inside { IsTrue result → at < length text.now }
 {
-    match seen(text, at) {
+    match peek_token(text, at) {
         Some(token) => is_name_kind(&token),
         None => false,
     }

@@ -5,7 +5,9 @@ ghost use Rattle.mt_term_parser.specs.Readings.{IsEnd, Reads, StopsInText};
 ghost use Rattle.mt_term_parser.specs.Grammar.{offset, raised_part, part_at, parts, led, separated};
 
 use crate::raw::{Part, Parts};
-use crate::readings::{is_name, misplaced, name_of, needed, number_at, sees_sign, sign_at};
+use crate::readings::{
+    is_name, misplacement, name_of, number_at, require_token, sees_sign, sign_at,
+};
 use mt_lexer::{Token, TokenKind};
 use mt_term::Halt;
 use std::alloc::Global;
@@ -58,7 +60,7 @@ fn part_at(alloc: Global, text: &str, at: usize) -> Result<(Part, usize), Halt>
     ensures end { IfOk result (λ p. IsEnd text.now at p.1) }
     ensures stop { IfErr result (StopsInText text.now) }
 {
-    let token = needed(text, at)?;
+    let token = require_token(text, at)?;
     match token.kind {
         TokenKind::Number(value) => Ok((Part::Number(value), token.end)),
         _ => raised_part(alloc, text, &token),
@@ -74,7 +76,7 @@ fn raised_part(alloc: Global, text: &str, token: &Token) -> Result<(Part, usize)
     ensures stop { IfErr result (StopsInText text.now) }
 {
     if !is_name(text, token) {
-        return Err(misplaced(token));
+        return Err(misplacement(token));
     }
     let (raised, end) = offset_at(text, token.end)?;
     let name = name_of(alloc, text, token)?;

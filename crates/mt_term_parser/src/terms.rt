@@ -1,7 +1,7 @@
 // The grammar of terms. `room` is how many terms more may be open within the term at hand, and
-// `deep` is how many steps more the tree may go down: each term takes one, and each item of a list
-// one more than the item before it. Past that memory is wanting, so no drop of a term overruns the
-// stack.
+// `depth_left` is how many steps more the tree may go down: each term takes one, and each item of a
+// list one more than the item before it. Past that memory is wanting, so no drop of a term overruns
+// the stack.
 ghost use Rattle.std.specs.Prelude.{◌≡◌, ◌-◌, ◌<◌, ◌≤◌, [], ◌∷◌, ◌++◌, ℕ, List, length, map, IfOk, IfErr, OnOk, IsTrue};
 ghost use Rattle.std.specs.Str.{IsCharBoundary};
 ghost use Rattle.mt_term_parser.specs.Readings.{many_from, IsEnd, HaltsAs, Reads, StopsInText};
@@ -9,15 +9,15 @@ ghost use Rattle.mt_term_parser.specs.Written.{Term};
 ghost use Rattle.mt_term_parser.specs.WrittenOf.{written_of, form_of, choice_of, case_of};
 ghost use Rattle.mt_term_parser.specs.Grammar.{lead_of_sign, lead_of, begins_atom, begins_argument, begins_term, sees_argument, led, separated, domain, lambda, product, parenthesis, matched, returned, body_of_match, arms, arm, atom_by, argument, app, arrow, term_by, full, term, term_at};
 
-use crate::building::{applied, boxed, cast, lam, matched, prod};
+use crate::building::{application_of, cast, in_box, lam, match_of, prod};
 use crate::raw::{Arm, Raw, RawShape, RawSort};
 use crate::readings::{
-    binder_at, binders_at, is_name, is_word, misplaced, name_at, name_of, needed, seen, sees_name,
-    sees_sign, sees_word, sign_at, sign_of, word_at,
+    binder_at, binders_at, is_name, is_word, misplacement, name_at, name_of, peek_token,
+    require_token, sees_name, sees_sign, sees_word, sign_at, sign_of, word_at,
 };
 use crate::sorts::parts_at;
 use mt_lexer::Token;
-use mt_term::{Fault, Halt, MOST_DEEP, Name, Refusal, deeper};
+use mt_term::{Fault, Halt, MAX_DEPTH, Name, Refusal, deeper};
 use std::alloc::{AllocError, Global};
 
 /// What a token begins.
@@ -99,7 +99,7 @@ fn sees_argument(text: &str, at: usize) -> bool
     ensures value { result ≡ sees_argument text.now at }
     ensures inside { IsTrue result → at < length text.now }
 {
-    match seen(text, at) {
+    match peek_token(text, at) {
         Some(token) => begins_argument(lead_of(text, &token)),
         None => false,
     }
@@ -114,7 +114,7 @@ pub fn term_at(alloc: Global, text: &str, at: usize, depth: usize) -> Result<(Ra
     ensures end { IfOk result (λ p. IsEnd text.now at p.1) }
     ensures stop { IfErr result (StopsInText text.now) }
 {
-    term(alloc, NESTING.saturating_sub(depth), MOST_DEEP, text, at)
+    term(alloc, NESTING.saturating_sub(depth), MAX_DEPTH, text, at)
 }
 
 // How many terms and sequences may be open.
@@ -125,7 +125,7 @@ const NESTING: usize = 200;
 fn term(
     alloc: Global,
     room: usize,
-    deep: usize,
+    depth_left: usize,
     text: &str,
     at: usize,
 ) -> Result<(Raw, usize), Halt>
@@ -134,13 +134,13 @@ fn term(
     ensures end { IfOk result (λ p. IsEnd text.now at p.1) }
     ensures stop { IfErr result (StopsInText text.now) }
 {
-    let token = needed(text, at)?;
+    let token = require_token(text, at)?;
     let lead = lead_of(text, &token);
     if room == 0 {
         return Err(full(lead, &token));
     }
-    let deep = deeper(deep)?;
-    term_by(alloc, room - 1, deep, lead, text, &token)
+    let depth_left = deeper(depth_left)?;
+    term_by(alloc, room - 1, depth_left, lead, text, &token)
 }
 
 // Where no further term may be open.
@@ -154,7 +154,7 @@ fn full(lead: Lead, token: &Token) -> Halt
             at: token.start,
         })
     } else {
-        misplaced(token)
+        misplacement(token)
     }
 }
 
@@ -163,7 +163,7 @@ fn full(lead: Lead, token: &Token) -> Halt
 fn term_by(
     alloc: Global,
     room: usize,
-    deep: usize,
+    depth_left: usize,
     lead: Lead,
     text: &str,
     token: &Token,
@@ -177,10 +177,10 @@ fn term_by(
     ensures stop { IfErr result (StopsInText text.now) }
 {
     match lead {
-        Lead::Lambda => lambda(alloc, room, deep, text, token.start, token.end),
-        Lead::Forall => product(alloc, room, deep, text, token.start, token.end),
-        Lead::Vector | Lead::Other => Err(misplaced(token)),
-        _ => arrow(alloc, room, deep, lead, text, token),
+        Lead::Lambda => lambda(alloc, room, depth_left, text, token.start, token.end),
+        Lead::Forall => product(alloc, room, depth_left, text, token.start, token.end),
+        Lead::Vector | Lead::Other => Err(misplacement(token)),
+        _ => arrow(alloc, room, depth_left, lead, text, token),
     }
 }
 
@@ -189,7 +189,7 @@ fn term_by(
 fn lambda(
     alloc: Global,
     room: usize,
-    deep: usize,
+    depth_left: usize,
     text: &str,
     start: usize,
     at: usize,
@@ -200,9 +200,9 @@ fn lambda(
     ensures stop { IfErr result (StopsInText text.now) }
 {
     let (name, after_name) = binder_at(alloc, text, at)?;
-    let (ty, after_type) = domain(alloc, room, deep, text, after_name)?;
+    let (ty, after_type) = domain(alloc, room, depth_left, text, after_name)?;
     let dot = sign_at('.', text, after_type)?;
-    let (body, end) = term(alloc, room, deep, text, dot)?;
+    let (body, end) = term(alloc, room, depth_left, text, dot)?;
     Ok((lam(alloc, start, name, ty, body)?, end))
 }
 
@@ -211,7 +211,7 @@ fn lambda(
 fn product(
     alloc: Global,
     room: usize,
-    deep: usize,
+    depth_left: usize,
     text: &str,
     start: usize,
     at: usize,
@@ -223,9 +223,9 @@ fn product(
 {
     let (name, after_name) = binder_at(alloc, text, at)?;
     let colon = sign_at(':', text, after_name)?;
-    let (ty, after_type) = term(alloc, room, deep, text, colon)?;
+    let (ty, after_type) = term(alloc, room, depth_left, text, colon)?;
     let dot = sign_at('.', text, after_type)?;
-    let (body, end) = term(alloc, room, deep, text, dot)?;
+    let (body, end) = term(alloc, room, depth_left, text, dot)?;
     Ok((prod(alloc, start, name, ty, body)?, end))
 }
 
@@ -234,7 +234,7 @@ fn product(
 fn domain(
     alloc: Global,
     room: usize,
-    deep: usize,
+    depth_left: usize,
     text: &str,
     at: usize,
 ) -> Result<(Option<Box<Raw>>, usize), Halt>
@@ -247,8 +247,8 @@ fn domain(
         return Ok((None, at));
     }
     let colon = sign_at(':', text, at)?;
-    let (ty, end) = term(alloc, room, deep, text, colon)?;
-    Ok((Some(boxed(alloc, ty)?), end))
+    let (ty, end) = term(alloc, room, depth_left, text, colon)?;
+    Ok((Some(in_box(alloc, ty)?), end))
 }
 
 // `app ["→" term]`.
@@ -256,7 +256,7 @@ fn domain(
 fn arrow(
     alloc: Global,
     room: usize,
-    deep: usize,
+    depth_left: usize,
     lead: Lead,
     text: &str,
     token: &Token,
@@ -269,12 +269,12 @@ fn arrow(
     ensures end { IfOk result (λ p. (token.now.end ≤ p.1) × IsCharBoundary text.now p.1) }
     ensures stop { IfErr result (StopsInText text.now) }
 {
-    let (ty, after_type) = app(alloc, room, deep, lead, text, token)?;
+    let (ty, after_type) = app(alloc, room, depth_left, lead, text, token)?;
     if !sees_sign('→', text, after_type) {
         return Ok((ty, after_type));
     }
     let sign = sign_at('→', text, after_type)?;
-    let (body, end) = term(alloc, room, deep, text, sign)?;
+    let (body, end) = term(alloc, room, depth_left, text, sign)?;
     let name = Name::from_bytes(alloc, b"_")?;
     Ok((prod(alloc, token.start, name, ty, body)?, end))
 }
@@ -284,7 +284,7 @@ fn arrow(
 fn app(
     alloc: Global,
     room: usize,
-    deep: usize,
+    depth_left: usize,
     lead: Lead,
     text: &str,
     token: &Token,
@@ -297,9 +297,9 @@ fn app(
     ensures end { IfOk result (λ p. (token.now.end ≤ p.1) × IsCharBoundary text.now p.1) }
     ensures stop { IfErr result (StopsInText text.now) }
 {
-    let (function, after_function) = atom(alloc, room, deep, lead, text, token)?;
-    let (args, end) = arguments(alloc, room, deep, text, after_function)?;
-    Ok((applied(alloc, token.start, function, args)?, end))
+    let (function, after_function) = atom(alloc, room, depth_left, lead, text, token)?;
+    let (args, end) = arguments(alloc, room, depth_left, text, after_function)?;
+    Ok((application_of(alloc, token.start, function, args)?, end))
 }
 
 // `{ atom | "…" }`.
@@ -307,7 +307,7 @@ fn app(
 fn arguments(
     alloc: Global,
     room: usize,
-    deep: usize,
+    depth_left: usize,
     text: &str,
     at: usize,
 ) -> Result<(Vec<Raw>, usize), Halt>
@@ -317,11 +317,11 @@ fn arguments(
     ensures stop { IfErr result (StopsInText text.now) }
 {
     let mut args = Vec::new(alloc);
-    let mut deep = deep;
+    let mut depth_left = depth_left;
     let mut end = at;
     'row: while sees_argument(text, end) {
-        deep = deeper(deep)?;
-        let (arg, last) = argument(alloc, room, deep, text, end)?;
+        depth_left = deeper(depth_left)?;
+        let (arg, last) = argument(alloc, room, depth_left, text, end)?;
         push_raw(&mut args, arg)?;
         end = last;
     }
@@ -340,7 +340,7 @@ fn push_raw(items: &mut Vec<Raw>, raw: Raw) -> Result<(), AllocError>
 fn argument(
     alloc: Global,
     room: usize,
-    deep: usize,
+    depth_left: usize,
     text: &str,
     at: usize,
 ) -> Result<(Raw, usize), Halt>
@@ -349,10 +349,10 @@ fn argument(
     ensures end { IfOk result (λ p. IsEnd text.now at p.1) }
     ensures stop { IfErr result (StopsInText text.now) }
 {
-    let token = needed(text, at)?;
+    let token = require_token(text, at)?;
     match lead_of(text, &token) {
         Lead::Vector => Ok((plain(token.start, RawShape::Vector), token.end)),
-        lead => atom(alloc, room, deep, lead, text, &token),
+        lead => atom(alloc, room, depth_left, lead, text, &token),
     }
 }
 
@@ -367,7 +367,7 @@ fn plain(start: usize, shape: RawShape) -> Raw
 fn atom(
     alloc: Global,
     room: usize,
-    deep: usize,
+    depth_left: usize,
     lead: Lead,
     text: &str,
     token: &Token,
@@ -390,9 +390,9 @@ fn atom(
             let (parts, end) = parts_at(alloc, text, token.end)?;
             Ok((plain(token.start, RawShape::Sort(RawSort::Typ(parts))), end))
         }
-        Lead::Open => parenthesis(alloc, room, deep, text, token.start, token.end),
-        Lead::Match => matched_at(alloc, room, deep, text, token.start, token.end),
-        _ => Err(misplaced(token)),
+        Lead::Open => parenthesis(alloc, room, depth_left, text, token.start, token.end),
+        Lead::Match => matched_at(alloc, room, depth_left, text, token.start, token.end),
+        _ => Err(misplacement(token)),
     }
 }
 
@@ -401,7 +401,7 @@ fn atom(
 fn parenthesis(
     alloc: Global,
     room: usize,
-    deep: usize,
+    depth_left: usize,
     text: &str,
     start: usize,
     at: usize,
@@ -411,8 +411,8 @@ fn parenthesis(
     ensures end { IfOk result (λ p. IsEnd text.now at p.1) }
     ensures stop { IfErr result (StopsInText text.now) }
 {
-    let (inner, after_term) = term(alloc, room, deep, text, at)?;
-    let (ty, after_type) = domain(alloc, room, deep, text, after_term)?;
+    let (inner, after_term) = term(alloc, room, depth_left, text, at)?;
+    let (ty, after_type) = domain(alloc, room, depth_left, text, after_term)?;
     let end = sign_at(')', text, after_type)?;
     Ok((cast(alloc, start, inner, ty)?, end))
 }
@@ -422,7 +422,7 @@ fn parenthesis(
 fn matched_at(
     alloc: Global,
     room: usize,
-    deep: usize,
+    depth_left: usize,
     text: &str,
     start: usize,
     at: usize,
@@ -432,10 +432,10 @@ fn matched_at(
     ensures end { IfOk result (λ p. IsEnd text.now at p.1) }
     ensures stop { IfErr result (StopsInText text.now) }
 {
-    let (inner, after_term) = term(alloc, room, deep, text, at)?;
-    let (ty, after_type) = returned(alloc, room, deep, text, after_term)?;
-    let (arms, end) = match_body(alloc, room, deep, text, after_type)?;
-    Ok((matched(alloc, start, inner, ty, arms)?, end))
+    let (inner, after_term) = term(alloc, room, depth_left, text, at)?;
+    let (ty, after_type) = returned(alloc, room, depth_left, text, after_term)?;
+    let (arms, end) = match_body(alloc, room, depth_left, text, after_type)?;
+    Ok((match_of(alloc, start, inner, ty, arms)?, end))
 }
 
 // `["return" term]`.
@@ -443,7 +443,7 @@ fn matched_at(
 fn returned(
     alloc: Global,
     room: usize,
-    deep: usize,
+    depth_left: usize,
     text: &str,
     at: usize,
 ) -> Result<(Option<Box<Raw>>, usize), Halt>
@@ -456,8 +456,8 @@ fn returned(
         return Ok((None, at));
     }
     let word = word_at("return", text, at)?;
-    let (ty, end) = term(alloc, room, deep, text, word)?;
-    Ok((Some(boxed(alloc, ty)?), end))
+    let (ty, end) = term(alloc, room, depth_left, text, word)?;
+    Ok((Some(in_box(alloc, ty)?), end))
 }
 
 // `"with" "[" [arm { "|" arm }] "]"`.
@@ -465,7 +465,7 @@ fn returned(
 fn match_body(
     alloc: Global,
     room: usize,
-    deep: usize,
+    depth_left: usize,
     text: &str,
     at: usize,
 ) -> Result<(Vec<Arm>, usize), Halt>
@@ -476,7 +476,7 @@ fn match_body(
 {
     let word = word_at("with", text, at)?;
     let open = sign_at('[', text, word)?;
-    let (arms, last) = optional_arms(alloc, room, deep, text, open)?;
+    let (arms, last) = optional_arms(alloc, room, depth_left, text, open)?;
     let end = sign_at(']', text, last)?;
     Ok((arms, end))
 }
@@ -486,7 +486,7 @@ fn match_body(
 fn optional_arms(
     alloc: Global,
     room: usize,
-    deep: usize,
+    depth_left: usize,
     text: &str,
     at: usize,
 ) -> Result<(Vec<Arm>, usize), Halt>
@@ -496,7 +496,7 @@ fn optional_arms(
     ensures stop { IfErr result (StopsInText text.now) }
 {
     if sees_name(text, at) {
-        arms(alloc, room, deep, text, at)
+        arms(alloc, room, depth_left, text, at)
     } else {
         Ok((Vec::new(alloc), at))
     }
@@ -506,7 +506,7 @@ fn optional_arms(
 fn arms(
     alloc: Global,
     room: usize,
-    deep: usize,
+    depth_left: usize,
     text: &str,
     at: usize,
 ) -> Result<(Vec<Arm>, usize), Halt>
@@ -516,12 +516,12 @@ fn arms(
     ensures stop { IfErr result (StopsInText text.now) }
 {
     let mut arms = Vec::new(alloc);
-    let (first, mut end) = arm(alloc, room, deep, text, at)?;
+    let (first, mut end) = arm(alloc, room, depth_left, text, at)?;
     push_arm(&mut arms, first)?;
-    let mut deep = deep;
+    let mut depth_left = depth_left;
     'row: while sees_sign('|', text, end) {
-        deep = deeper(deep)?;
-        let (arm, last) = next_arm(alloc, room, deep, text, end)?;
+        depth_left = deeper(depth_left)?;
+        let (arm, last) = next_arm(alloc, room, depth_left, text, end)?;
         push_arm(&mut arms, arm)?;
         end = last;
     }
@@ -540,7 +540,7 @@ fn push_arm(items: &mut Vec<Arm>, arm: Arm) -> Result<(), AllocError>
 fn next_arm(
     alloc: Global,
     room: usize,
-    deep: usize,
+    depth_left: usize,
     text: &str,
     at: usize,
 ) -> Result<(Arm, usize), Halt>
@@ -550,12 +550,18 @@ fn next_arm(
     ensures stop { IfErr result (StopsInText text.now) }
 {
     let bar = sign_at('|', text, at)?;
-    arm(alloc, room, deep, text, bar)
+    arm(alloc, room, depth_left, text, bar)
 }
 
 // `name { x } "⇒" term`.
 #[cycle(term)]
-fn arm(alloc: Global, room: usize, deep: usize, text: &str, at: usize) -> Result<(Arm, usize), Halt>
+fn arm(
+    alloc: Global,
+    room: usize,
+    depth_left: usize,
+    text: &str,
+    at: usize,
+) -> Result<(Arm, usize), Halt>
     requires { IsCharBoundary text.now at }
     ensures reads { Reads case_of (arm (term room text.now) text.now at) result }
     ensures end { IfOk result (λ p. IsEnd text.now at p.1) }
@@ -564,7 +570,7 @@ fn arm(alloc: Global, room: usize, deep: usize, text: &str, at: usize) -> Result
     let (name, after_name) = name_at(alloc, text, at)?;
     let (binders, after_binders) = binders_at(alloc, text, after_name)?;
     let sign = sign_at('⇒', text, after_binders)?;
-    let (body, end) = term(alloc, room, deep, text, sign)?;
+    let (body, end) = term(alloc, room, depth_left, text, sign)?;
     Ok((
         Arm {
             name,

@@ -1,7 +1,8 @@
-// Corecursive functions that are guarded, and one that is not. The type is entry 0, and the function is entry 1.
+// Corecursive functions that are guarded, and one that is not. The type is entry 0, and the
+// function is entry 1.
 
 use mt_env::{Env, hold};
-use mt_guard::{co_guard_by_test, guard_by_test, guarded};
+use mt_guard::{co_guard_by_test, guard_by_test, is_entry_guarded};
 use mt_pool::Pool;
 use mt_term::{Cons, Constructor, Entry, Name, OutOfMemory, Sort, Term};
 use std::alloc::Global;
@@ -24,7 +25,7 @@ fn unit_type(alloc: Global) -> Result<Entry, OutOfMemory> {
     })
 }
 
-// What `guarded` says of a corecursive function with this body.
+// What `is_entry_guarded` says of a corecursive function with this body.
 #[tactic(auto, using(mt_guard::proofs::Growing::growing))]
 fn corecursive(alloc: Global, body: Term) -> Result<bool, OutOfMemory> {
     let mut pool = Pool::new(alloc);
@@ -42,7 +43,7 @@ fn corecursive(alloc: Global, body: Term) -> Result<bool, OutOfMemory> {
     if env.add(alloc, &mut pool, &unit_type(alloc)?).is_err() {
         return Err(OutOfMemory);
     }
-    guarded(&pool, &env, 1, &function)
+    is_entry_guarded(&pool, &env, 1, &function)
 }
 
 #[test]

@@ -166,7 +166,7 @@ fn a_body_is_filled(rt: HostRuntime) -> Result<(), Fail> {
     let mut pool = Pool::new(alloc);
     let t = variables(alloc, &mut pool)?;
     let prop = pool.put(Node::Sort(Sort::Prop))?;
-    let made = pool.filled(alloc, t, &[prop])?;
+    let made = pool.fill(alloc, t, &[prop])?;
     let wanted = app(alloc, Term::Sort(Sort::Prop), Term::Var(0))?;
     assert!(rt; says(alloc, &pool, made, &wanted)?);
     Ok(())

@@ -1,8 +1,12 @@
-// Constructors that are positive, and ones that are not, of a type that is entry 0; and the parts of the test.
+// Constructors that are positive, and ones that are not, of a type that is entry 0; and the parts
+// of the test.
 
 use mt_pool::{Held, HeldCons, HeldConstructor, Pool, TermIds};
-use mt_positivity::{Family, avoid_terms, avoids, is_recursive, is_type_on, positive, products};
-use mt_term::{MOST_DEEP, Name, OutOfMemory, Sort, Term};
+use mt_positivity::{
+    Family, avoid_terms, avoiding_by_test, avoids, is_recursive, is_type_on, positive,
+    positivity_by_test, products, recursive_place_by_test,
+};
+use mt_term::{MAX_DEPTH, Name, OutOfMemory, Sort, Term};
 use std::alloc::Global;
 use std::test::Fail;
 
@@ -73,13 +77,13 @@ fn entries_that_a_term_mentions(rt: HostRuntime) -> Result<(), Fail> {
     let alloc = rt.alloc();
     let mut pool = Pool::new(alloc);
     let arrow = pool.import(alloc, &prod(alloc, Term::Const(1), Term::Con(0, 2))?)?;
-    assert_eq!(rt; avoids(&pool, 0, arrow, MOST_DEEP), Ok(false));
-    assert_eq!(rt; avoids(&pool, 1, arrow, MOST_DEEP), Ok(false));
-    assert_eq!(rt; avoids(&pool, 2, arrow, MOST_DEEP), Ok(true));
+    assert_eq!(rt; avoids(&pool, 0, arrow, MAX_DEPTH), Ok(false));
+    assert_eq!(rt; avoids(&pool, 1, arrow, MAX_DEPTH), Ok(false));
+    assert_eq!(rt; avoids(&pool, 2, arrow, MAX_DEPTH), Ok(true));
     assert_eq!(rt; avoids(&pool, 2, arrow, 1), Err(OutOfMemory));
     let terms = TermIds::Item(arrow, Box::new(alloc, TermIds::End)?);
-    assert_eq!(rt; avoid_terms(&pool, 0, &terms, MOST_DEEP), Ok(false));
-    assert_eq!(rt; avoid_terms(&pool, 2, &terms, MOST_DEEP), Ok(true));
+    assert_eq!(rt; avoid_terms(&pool, 0, &terms, MAX_DEPTH), Ok(false));
+    assert_eq!(rt; avoid_terms(&pool, 2, &terms, MAX_DEPTH), Ok(true));
     Ok(())
 }
 
@@ -103,8 +107,8 @@ fn a_type_on_its_parameters(rt: HostRuntime) -> Result<(), Fail> {
     let mut pool = Pool::new(alloc);
     let own = pool.import(alloc, &indexed(alloc, 3)?)?;
     // the parameter is variable 3 under 3 arguments alone
-    assert_eq!(rt; is_type_on(&pool, INDEXED, 3, own, 2, MOST_DEEP), Ok(true));
-    assert_eq!(rt; is_type_on(&pool, INDEXED, 2, own, 2, MOST_DEEP), Ok(false));
+    assert_eq!(rt; is_type_on(&pool, INDEXED, 3, own, 2, MAX_DEPTH), Ok(true));
+    assert_eq!(rt; is_type_on(&pool, INDEXED, 2, own, 2, MAX_DEPTH), Ok(false));
     Ok(())
 }
 
@@ -116,7 +120,7 @@ fn types_of_recursive_places(rt: HostRuntime) -> Result<(), Fail> {
     // under a product the parameter is one variable further
     let branching = pool.import(alloc, &prod(alloc, Term::Const(1), indexed(alloc, 1)?)?)?;
     assert_eq!(rt;
-        is_recursive(&pool, INDEXED, 0, branching, MOST_DEEP),
+        is_recursive(&pool, INDEXED, 0, branching, MAX_DEPTH),
         Ok(true)
     );
     Ok(())
@@ -131,4 +135,11 @@ fn products_at_the_front(rt: HostRuntime) -> Result<(), Fail> {
     assert_eq!(rt; products(&pool, two, 3), Ok(2));
     assert_eq!(rt; products(&pool, two, 2), Err(OutOfMemory));
     Ok(())
+}
+
+#[test]
+fn laws(_rt: HostRuntime) {
+    avoiding_by_test();
+    recursive_place_by_test();
+    positivity_by_test();
 }

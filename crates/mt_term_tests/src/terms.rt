@@ -1,9 +1,11 @@
 // Each public call once, with ample memory.
+use mt_calculus_laws::derivations;
+use mt_rules_laws::reductions;
 use mt_term::{
     Atom, Atoms, Branch, Branches, Cons, Constructor, Entries, Entry, GoalMarks, Hyp, Hyps, Metas,
     Name, Names, Note, Notes, Pairs, PlainEq, PlainEqs, PlainMeta, Refusal, Sort, Term, Terms,
-    UnivExpr, alike, copy, copy_branches, copy_terms, deeper, derivations, filled, is_within, lift,
-    reductions, substitute, under,
+    UnivExpr, alike, copy, copy_branches, copy_terms, deeper, fill, is_within, lift, substitute,
+    under, universe_laws,
 };
 use std::alloc::{AllocError, Global};
 use std::test::Fail;
@@ -219,7 +221,7 @@ fn terms_are_put_for_variables(rt: HostRuntime) -> Result<(), Fail> {
     let term = app(alloc, Term::Var(0), Term::Var(1))?;
     let wanted = app(alloc, first_type(alloc), Term::Sort(Sort::Prop))?;
     assert!(rt; alike(&under(alloc, &term, &sorts)?, &wanted));
-    let got = filled(alloc, &app(alloc, term, Term::Var(3))?, &sorts)?;
+    let got = fill(alloc, &app(alloc, term, Term::Var(3))?, &sorts)?;
     assert!(rt; alike(&got, &app(alloc, wanted, Term::Var(1))?));
     Ok(())
 }
@@ -253,6 +255,19 @@ fn the_laws_over_derivations_are_there(_rt: HostRuntime) -> Result<(), Fail> {
     derivations::declaring();
     derivations::assigning();
     derivations::unfold_outside();
+    Ok(())
+}
+
+#[test]
+fn the_laws_of_growth_and_of_values_are_there(_rt: HostRuntime) -> Result<(), Fail> {
+    derivations::no_other_instance();
+    derivations::growth_of_sound_store();
+    derivations::growth_of_sound_instances();
+    derivations::growth_of_conversion();
+    universe_laws::values_of_normal_form();
+    universe_laws::normal_form_of_normal();
+    universe_laws::values_of_maximum();
+    universe_laws::values_of_raised();
     Ok(())
 }
 

@@ -1,5 +1,5 @@
-use mt_unification::{
-    going_by_allowance, reach_by_test, refusal_shows_terms, store_grows,
+use mt_unification_laws::{
+    going_by_allowance, proper_stores, reach_by_test, refusal_shows_terms, store_grows,
     unification_gives_conversion,
 };
 
@@ -9,5 +9,6 @@ fn laws(_rt: HostRuntime) {
     refusal_shows_terms();
     store_grows();
     unification_gives_conversion();
+    proper_stores();
     reach_by_test();
 }

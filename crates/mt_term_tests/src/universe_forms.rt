@@ -1,5 +1,5 @@
 // Forms of universe expressions.
-use mt_term::{Atom, Atoms, UnivExpr, maximum, normal_form, raised};
+use mt_term::{Atom, Atoms, UnivExpr, maximum, normal_form, successor};
 use std::alloc::Global;
 use std::test::Fail;
 
@@ -30,9 +30,9 @@ fn forms_of_universe_expressions(rt: HostRuntime) -> Result<(), Fail> {
     )?;
     assert_eq!(rt; most.base, 4);
     assert_eq!(rt; most.atoms.len(), 2);
-    let higher = raised(alloc, &sum(alloc, 0, &[(1, 3)])?)?.ok_or("it fits")?;
+    let higher = successor(alloc, &sum(alloc, 0, &[(1, 3)])?)?.ok_or("it fits")?;
     assert_eq!(rt; higher.base, 0);
     assert!(rt; higher.atoms.as_slice() == [Atom { name: 1, offset: 4 }].as_slice());
-    assert!(rt; raised(alloc, &sum(alloc, 4294967295, &[])?)?.is_none());
+    assert!(rt; successor(alloc, &sum(alloc, 4294967295, &[])?)?.is_none());
     Ok(())
 }

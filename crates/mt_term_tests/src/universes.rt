@@ -1,6 +1,9 @@
 // The order of universes, and what is declared of it.
 use mt_term::{Atom, Atoms, Name, UnivExpr};
-use mt_universe::{Graph, GraphStop};
+use mt_universe::{
+    Graph, GraphStop, cycle_by_valuations, expression_order_by_valuations,
+    same_sorts_by_valuations, sort_order_by_valuations,
+};
 use std::alloc::{AllocError, Global};
 use std::clone::Clone;
 use std::test::Fail;
@@ -91,4 +94,12 @@ fn a_257th_name_is_refused(rt: HostRuntime) -> Result<(), Fail> {
     assert!(rt; graph.leq(&at(alloc, 0, 0, 1)?, &at(alloc, 0, 255, 0)?));
     assert!(rt; !graph.leq(&at(alloc, 0, 0, 2)?, &at(alloc, 0, 255, 0)?));
     Ok(())
+}
+
+#[test]
+fn laws(_rt: HostRuntime) {
+    expression_order_by_valuations();
+    sort_order_by_valuations();
+    same_sorts_by_valuations();
+    cycle_by_valuations();
 }

@@ -1,7 +1,8 @@
 -- Devices in memory, as contracts see them.
 use Rattle.std.specs.Prelude.{ℕ, List, ◌+◌, ◌-◌, ◌^◌, min}
 
--- a source in memory: the bytes still to come, at most how many a read gives, the numbers of the reads that fail,
+-- a source in memory: the bytes still to come, at most how many a read gives, the numbers of the
+-- reads that fail,
 -- the number of the next read (which stands at its type's end), and the count of faults
 pub record SourceView : Type 0 where
   pub coming : List ℕ

@@ -1,4 +1,5 @@
-// Readers and writers of std as a source and a sink: the trusted edge, since no proof says what a file or a terminal does.
+// Readers and writers of std as a source and a sink: the trusted edge, since no proof says what a
+// file or a terminal does.
 ghost use Rattle.std.specs.Prelude.{◌≡◌};
 ghost use Rattle.std.specs.Io.{ReadsAtMost, WritesAtMost};
 ghost use Rattle.std.specs.Io.KnownBytes.{ReadConsumes, WriteAppends};
@@ -7,8 +8,8 @@ ghost use Rattle.mt_text.specs.Causes.{HasCause, IsCounted, WritesSome};
 use crate::{Failed, Sink, Source};
 use std::io::{Read, Write};
 
-/// A reader of std as a source. Each `Err` of the reader is a failure; `raised` counts them and stands at its type's end.
-/// What the reader tells of its bytes is passed on.
+/// A reader of std as a source. Each `Err` of the reader is a failure; `raised` counts them and
+/// stands at its type's end. What the reader tells of its bytes is passed on.
 #[derive(Drop)]
 pub struct ReadAdapter<R: Read> {
     pub inner: R,
@@ -45,8 +46,9 @@ impl<R: Read> Source for ReadAdapter<R> {
     }
 }
 
-/// A writer of std as a sink. Each `Err` of the writer is a failure, and so is a write that takes nothing of something;
-/// `raised` counts them and stands at its type's end. What the writer tells of its bytes is passed on.
+/// A writer of std as a sink. Each `Err` of the writer is a failure, and so is a write that takes
+/// nothing of something; `raised` counts them and stands at its type's end. What the writer tells
+/// of its bytes is passed on.
 #[derive(Drop)]
 pub struct WriteAdapter<W: Write> {
     pub inner: W,

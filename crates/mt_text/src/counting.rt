@@ -7,7 +7,8 @@ use std::sync::ledger::{Blank, Book, Ledger, Share};
 /// The ledger of a caller that counts nothing.
 pub use std::marker::Brand as PlainLedger;
 
-/// How many steps were taken, as contracts see it: a number without a greatest one. Only `tick` changes it.
+/// How many steps were taken, as contracts see it: a number without a greatest one. Only `tick`
+/// changes it.
 #[derive(Drop)]
 pub struct Steps<L: Ledger> {
     book: Book<L>,

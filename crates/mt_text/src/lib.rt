@@ -18,7 +18,8 @@ pub use std::alloc::AllocError as OutOfMemory;
 pub use std::sync::ledger::Ledger;
 pub use steady::{SteadySink, SteadySource};
 
-/// The place of a unit in its text: it stands at `start..end`, and the bytes before `seen` decide it.
+/// The place of a unit in its text: it stands at `start..end`, and the bytes before `seen` decide
+/// it.
 #[derive(Clone, Copy, Debug, PartialEq, Eq)]
 pub struct UnitSpan {
     pub start: usize,

@@ -79,8 +79,8 @@ impl Source for MemorySource {
 }
 
 /// A sink that keeps the bytes that it gets, at most `room` of them and at most `piece` at a write.
-/// The writes whose numbers, from 0 on, are listed fail, and so does a write of something where no room is left.
-/// Writing takes no memory.
+/// The writes whose numbers, from 0 on, are listed fail, and so does a write of something where no
+/// room is left. Writing takes no memory.
 #[derive(Drop)]
 pub struct MemorySink {
     bytes: Vec<u8>,
@@ -103,8 +103,8 @@ impl Model for MemorySink {
 }
 
 impl MemorySink {
-    /// An empty sink with room for `room` bytes. The writes whose numbers stand in `failing` will fail.
-    /// `OutOfMemory` comes where the room can't be had.
+    /// An empty sink with room for `room` bytes. The writes whose numbers stand in `failing` will
+    /// fail. `OutOfMemory` comes where the room can't be had.
     pub fn new(
         alloc: Global,
         room: usize,

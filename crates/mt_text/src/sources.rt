@@ -17,8 +17,8 @@ pub trait Source {
     /// A count of failures, which never falls.
     ghost faults: { Self → ℕ };
 
-    /// Moves bytes to the front of `buf` and says how many: zero exactly at the end, or where `buf` is empty.
-    /// `Failed` comes only where the count of faults rose, and then nothing was moved.
+    /// Moves bytes to the front of `buf` and says how many: zero exactly at the end, or where `buf`
+    /// is empty. `Failed` comes only where the count of faults rose, and then nothing was moved.
     fn read(&mut self, buf: &mut [u8]) -> Result<usize, Failed>
         ensures bound { ReadsAtMost result buf.new }
         ensures bytes { ReadConsumes (left self.old) (left self.new) result buf.new }

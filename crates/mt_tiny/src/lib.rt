@@ -1,10 +1,25 @@
-//! The tinycals: single steps of a structured proof.
+//! The tinycals: single steps of a structured proof, on a stack of levels and over any prover.
 #![tactic(auto)]
 
-ghost use Rattle.std.specs.Prelude.{◌≡◌, [], ◌∷◌, ◌++◌, length, slice_get, OnOk, OnErr};
+mod levels;
+mod lists;
+mod provers;
+mod stack;
+mod steps;
+mod stops;
 
+ghost use Rattle.std.specs.Prelude.{◌≡◌, ◌++◌, [], ◌∷◌, IfOk, length, slice_get, OnOk, OnErr};
+
+pub use levels::{Level, Located, Tag};
+pub use lists::{
+    act, all_goals, any_open, dotted, either_open, may_focus, numbered, one_goal, opened, picked,
+};
+pub use provers::{Prover, ProverStop};
+pub use stack::{Levels, Stack};
+pub use std::alloc::AllocError as OutOfMemory;
 use std::alloc::{AllocError, Global};
 use std::marker::Model;
+pub use stops::TinyStop;
 
 /// Numbers of goals or of positions, seen as the list of them.
 #[derive(Drop, Debug)]
@@ -30,12 +45,30 @@ impl Goals {
         }
     }
 
+    /// The numbers of a slice.
+    pub fn from_slice(alloc: Global, goals: &[usize]) -> Result<Goals, AllocError>
+        ensures { IfOk result (λ gs. gs ≡ goals.now) }
+    {
+        Ok(Goals {
+            items: Vec::from_slice(alloc, goals)?,
+        })
+    }
+
     /// Appends a number.
     pub fn push(&mut self, goal: usize) -> Result<(), AllocError>
         ensures ok { OnOk result (self.new ≡ self.old ++ goal ∷ []) }
         ensures err { OnErr result (self.new ≡ self.old) }
     {
         self.items.push(goal)?;
+        Ok(())
+    }
+
+    /// Appends the numbers of a slice.
+    pub fn append(&mut self, goals: &[usize]) -> Result<(), AllocError>
+        ensures ok { OnOk result (self.new ≡ self.old ++ goals.now) }
+        ensures err { OnErr result (self.new ≡ self.old) }
+    {
+        self.items.extend_from_slice(goals)?;
         Ok(())
     }
 

@@ -6,7 +6,7 @@ use Rattle.mt_lexer.specs.declared.TokenKind.{TokenKind}
 use Rattle.mt_lexer.specs.declared.TokenKind.TheVariants as kind
 use Rattle.mt_lexer.specs.declared.LexStop.{LexStop}
 use Rattle.mt_lexer.specs.Tokens.{next_token}
-use Rattle.mt_term.specs.Declarations.{Syntax}
+use Rattle.mt_term.specs.Reasons.{Syntax}
 use Rattle.mt_tactical.specs.Tacticals.{End, Action, Skip, Branches, Focus}
 use Rattle.mt_tactical.specs.declared.Pick.TheVariants as pick
 use Rattle.mt_term_parser.specs.Readings.{Reading, Got, Stops, then_read, needed_from, needed, sign_of, is_name_kind, seen_token, seen_from, seen}

@@ -2,7 +2,7 @@
 use Rattle.std.proofs.Common.{◌≡◌, ℕ, Bool, true, false, ◌&&◌, cond, List, [], ◌∷◌, refl, ap, ap₂}
 use Rattle.std.specs.Prelude.{codes, bytes_eq, Some, None}
 use Rattle.mt_lexer.specs.declared.Token.{Token}
-use Rattle.mt_term.specs.Declarations.{Syntax}
+use Rattle.mt_term.specs.Reasons.{Syntax}
 use Rattle.mt_term_parser.specs.Written.{Absent, Given}
 use Rattle.mt_term_parser.specs.Readings.{Got, Stops, then_read, passed, word_of, is_name, is_name_kind, number}
 use Rattle.mt_term_parser.specs.Grammar.{term_at}

@@ -12,7 +12,7 @@ use Rattle.mt_lexer.specs.declared.TokenKind.TheVariants as kind
 use Rattle.mt_lexer.specs.Shared.{is_closing}
 use Rattle.mt_lexer.specs.Tokens.{token_at, chars_from, next_token}
 use Rattle.mt_lexer.proofs.Shared_tokens.{width, token_at-shared}
-use Rattle.mt_term.specs.Declarations.{Reason, Syntax}
+use Rattle.mt_term.specs.Reasons.{Reason, Syntax}
 use Rattle.mt_term_parser.specs.Readings.{Reading, Got, Stops, then_read, needed_from, needed, passed, word_of, sign_from, sign_by, sign_of, sign}
 use Rattle.mt_unit_laws.proofs.Tokens.{Stands, chars-stand, Cut, token-cut, Next, next-stands, width-append}
 use Rattle.mt_unit_laws.proofs.Texts.{closes, Front, Closed, SameToken, one-text, Again, again}

@@ -1,7 +1,11 @@
+mod Carried
 mod Closed_tacticals
 mod Commands
 mod Final
 mod Local
+mod PlacedCommands
+mod PlacedTerms
+mod PlacedUnits
 mod Places
 mod Terms
 mod Texts

@@ -8,7 +8,7 @@ use Rattle.mt_lexer.specs.declared.TokenKind.TheVariants as kind
 use Rattle.mt_lexer.specs.declared.LexStop.{LexStop}
 use Rattle.mt_lexer.specs.declared.LexStop.TheVariants as lex
 use Rattle.mt_lexer.specs.Tokens.{next_token}
-use Rattle.mt_term.specs.Declarations.{Reason, Syntax}
+use Rattle.mt_term.specs.Reasons.{Reason, Syntax}
 use Rattle.mt_term_parser.specs.Readings.{Reading, Got, Stops, then_read, many, many_from, needed_token, needed_from, needed, passed, seen_token, seen_from, sees_by, sees}
 use Rattle.mt_unit_laws.proofs.Tokens.{Stands, Next, next-stands, fault-stands}
 use Rattle.mt_unit_laws.proofs.Texts.{Front, Closed, SameToken, one-text, Again, again, shared-length}

@@ -9,7 +9,7 @@ use Rattle.mt_lexer.specs.declared.TokenKind.TheVariants as kind
 use Rattle.mt_lexer.specs.declared.LexStop.{LexStop}
 use Rattle.mt_lexer.specs.declared.LexStop.TheVariants as lex
 use Rattle.mt_lexer.specs.Tokens.{next_token}
-use Rattle.mt_term.specs.Declarations.{Reason}
+use Rattle.mt_term.specs.Reasons.{Reason}
 use Rattle.mt_term_parser.specs.Readings.{Reading, Got, Stops, then_read, needed, passed, sign_of}
 use Rattle.mt_tiny.specs.declared.Tiny.TheVariants as tiny
 use Rattle.mt_unit_parser.specs.declared.words.Lead.{Lead}

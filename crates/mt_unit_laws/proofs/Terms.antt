@@ -4,7 +4,7 @@ use Rattle.std.specs.Prelude.{codes, bytes_eq}
 use Rattle.mt_lexer.specs.declared.Token.{Token}
 use Rattle.mt_lexer.specs.declared.TokenKind.{TokenKind}
 use Rattle.mt_lexer.specs.declared.TokenKind.TheVariants as kind
-use Rattle.mt_term.specs.Declarations.{Syntax}
+use Rattle.mt_term.specs.Reasons.{Syntax}
 use Rattle.mt_term_parser.specs.declared.raw.Part.TheVariants as part
 use Rattle.mt_term_parser.specs.declared.raw.RawSort.TheVariants as sort
 use Rattle.mt_term_parser.specs.declared.terms.Lead.{Lead}

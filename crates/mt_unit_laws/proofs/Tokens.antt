@@ -97,7 +97,7 @@ other-cut zero at s c cs h e =
     record { front = []; rest = c ∷ cs; whole = refl; place = omega arith; stops = subst (λ p. gap 0 false p (c ∷ cs) ≡ Ok p) same (gap-goes zero at c cs ∙ ap (goes zero at c cs) h) }
 other-cut (suc depth) at s c cs h e = absurd (grind (arith, nat_tests))
 
-piece-cut : (depth at s c : ℕ) (cs : List ℕ) → ((deep : ℕ) (used : Bool) → gap deep used (at + len_utf8 c) cs ≡ Ok s → Gap cs (at + len_utf8 c) s)
+piece-cut : (depth at s c : ℕ) (cs : List ℕ) → ((depth_left : ℕ) (used : Bool) → gap depth_left used (at + len_utf8 c) cs ≡ Ok s → Gap cs (at + len_utf8 c) s)
     → (p : Piece) → piece depth c (slice_index cs 0) ≡ p → goes depth at c cs p ≡ Ok s → Gap (c ∷ cs) at s
 piece-cut depth at s c cs later Opening h e = longer c cs at s (later (depth + 1) true e)
 piece-cut depth at s c cs later Closing h e = longer c cs at s (later (depth - 1) true e)
@@ -110,7 +110,7 @@ gap-cut [] zero used at s e =
 gap-cut [] (suc depth) used at s e = absurd (cc)
 gap-cut (c ∷ cs) depth true at s e = longer c cs at s (gap-cut cs depth false (at + len_utf8 c) s (sym (gap-used depth at c cs) ∙ e))
 gap-cut (c ∷ cs) depth false at s e =
-    piece-cut depth at s c cs (λ deep used h. gap-cut cs deep used (at + len_utf8 c) s h) (piece depth c (slice_index cs 0)) refl (sym (gap-goes depth at c cs) ∙ e)
+    piece-cut depth at s c cs (λ depth_left used h. gap-cut cs depth_left used (at + len_utf8 c) s h) (piece depth c (slice_index cs 0)) refl (sym (gap-goes depth at c cs) ∙ e)
 
 -- ---- tokens
 
@@ -284,7 +284,7 @@ open_at at cs = Incomplete (at + width cs)
 further : (at c : ℕ) (cs : List ℕ) (e : LexStop) → open_at (at + len_utf8 c) cs ≡ e → open_at at (c ∷ cs) ≡ e
 further at c cs e h = ap Incomplete (let z : at + width (c ∷ cs) ≡ at + len_utf8 c + width cs = omega arith in z) ∙ h
 
-piece-stops : (depth at c : ℕ) (cs : List ℕ) (e : LexStop) → ((deep : ℕ) (used : Bool) → gap deep used (at + len_utf8 c) cs ≡ Err e → open_at (at + len_utf8 c) cs ≡ e)
+piece-stops : (depth at c : ℕ) (cs : List ℕ) (e : LexStop) → ((depth_left : ℕ) (used : Bool) → gap depth_left used (at + len_utf8 c) cs ≡ Err e → open_at (at + len_utf8 c) cs ≡ e)
     → (p : Piece) → goes depth at c cs p ≡ Err e → open_at at (c ∷ cs) ≡ e
 piece-stops depth at c cs e later Opening h = further at c cs e (later (depth + 1) true h)
 piece-stops depth at c cs e later Closing h = further at c cs e (later (depth - 1) true h)
@@ -296,7 +296,7 @@ gap-stops [] zero used at e h = absurd (cc)
 gap-stops [] (suc depth) used at e h = ap Incomplete (let z : at + width [] ≡ at = omega arith in z) ∙ (let z : Incomplete at ≡ e = cc in z)
 gap-stops (c ∷ cs) depth true at e h = further at c cs e (gap-stops cs depth false (at + len_utf8 c) e (sym (gap-used depth at c cs) ∙ h))
 gap-stops (c ∷ cs) depth false at e h =
-    piece-stops depth at c cs e (λ deep used q. gap-stops cs deep used (at + len_utf8 c) e q) (piece depth c (slice_index cs 0)) (sym (gap-goes depth at c cs) ∙ h)
+    piece-stops depth at c cs e (λ depth_left used q. gap-stops cs depth_left used (at + len_utf8 c) e q) (piece depth c (slice_index cs 0)) (sym (gap-goes depth at c cs) ∙ h)
 
 fault-by : (text : List ℕ) (at : ℕ) (e : LexStop) (v : Stands text at) (r : Result ℕ LexStop) → gap 0 false at v.utf8.0 ≡ r → after_gap text r ≡ Err e → Stands text (place_of e)
 fault-by text at e v (Ok s) q h =

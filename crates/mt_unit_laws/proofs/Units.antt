@@ -11,7 +11,7 @@ use Rattle.mt_lexer.specs.declared.LexStop.{LexStop}
 use Rattle.mt_lexer.specs.declared.LexStop.TheVariants as lex
 use Rattle.mt_lexer.specs.Shared.{is_closing}
 use Rattle.mt_lexer.specs.Tokens.{next_token}
-use Rattle.mt_term.specs.Declarations.{Reason, Syntax}
+use Rattle.mt_term.specs.Reasons.{Reason, Syntax}
 use Rattle.mt_term_parser.specs.Readings.{Reading, Got, Stops, then_read, sign_of, is_reserved_kind, is_name_kind}
 use Rattle.mt_tiny.specs.declared.Tiny.TheVariants as tiny
 use Rattle.mt_unit_parser.specs.declared.words.Verb.{Verb}

@@ -1,1 +1,2 @@
 pub mod UnitLaw
+pub mod EachPlace

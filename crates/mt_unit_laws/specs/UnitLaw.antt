@@ -1,7 +1,7 @@
 -- What decides a unit, and where units and faults stand.
 use Rattle.std.specs.Prelude.{◌≡◌, ℕ, ◌<◌, ◌≤◌, List, take, Some}
 use Rattle.std.specs.Str.{IsUtf8, IsCharBoundary}
-use Rattle.mt_term.specs.Declarations.{Reason}
+use Rattle.mt_term.specs.Reasons.{Reason}
 use Rattle.mt_term_parser.specs.Readings.{Got, Stops}
 use Rattle.mt_unit_parser.specs.WrittenUnits.{WrittenUnit}
 use Rattle.mt_unit_parser.specs.Blocks.{unit}

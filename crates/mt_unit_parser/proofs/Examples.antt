@@ -3,7 +3,7 @@ use Rattle.std.specs.Prelude.{◌≡◌, ℕ, List, [], ◌∷◌, ◌++◌, fal
 use lib.Utf8.{encode}
 use Rattle.std.specs.Str.{chars}
 use Rattle.unicode_ident.proofs.Computing.{unicode_ident}
-use Rattle.mt_term.specs.Declarations.{Lex, Syntax, Incomplete, TooDeep}
+use Rattle.mt_term.specs.Reasons.{Lex, Syntax, Incomplete, TooDeep}
 use Rattle.mt_term_parser.specs.declared.raw.RawSort.TheVariants as sort
 use Rattle.mt_term_parser.specs.Written.{Term, Name, Sort, App, Argument, NoArgument, Given, Absent}
 use Rattle.mt_term_parser.specs.Readings.{Reading, Got, Stops}

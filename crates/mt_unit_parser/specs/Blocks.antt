@@ -1,16 +1,21 @@
 -- The grammar of closed tacticals, and units as a whole.
-use Rattle.std.specs.Prelude.{ℕ, zero, suc, ◌+◌, ◌-◌, Bool, true, false, ◌||◌, ◌&&◌, ◌==◌, if◌then◌else◌, List, [], ◌∷◌, ◌++◌, length, bytes_eq, codes, Option, Some, None, Result, Ok, Err}
+use Rattle.std.specs.Prelude.{ℕ, zero, suc, ◌+◌, ◌-◌, Bool, true, false, ◌||◌, ◌&&◌, ◌==◌}
+use Rattle.std.specs.Prelude.{if◌then◌else◌, List, [], ◌∷◌, ◌++◌, length, bytes_eq, codes, Option}
+use Rattle.std.specs.Prelude.{Some, None, Result, Ok, Err}
 use Rattle.mt_lexer.specs.declared.Token.{Token}
 use Rattle.mt_lexer.specs.declared.TokenKind.{TokenKind}
 use Rattle.mt_lexer.specs.declared.TokenKind.TheVariants as kind
 use Rattle.mt_lexer.specs.declared.LexStop.{LexStop}
 use Rattle.mt_lexer.specs.declared.LexStop.TheVariants as lex
 use Rattle.mt_lexer.specs.Tokens.{next_token}
-use Rattle.mt_term.specs.Declarations.{Reason, Lex, Syntax, Incomplete, TooDeep}
-use Rattle.mt_tactical.specs.Tacticals.{Sequence, Step, Choices, End, Item, Action, Skip, Semicolon, Dot, Branches, Focus, NoBranch, Branch}
+use Rattle.mt_term.specs.Reasons.{Reason, Lex, Syntax, Incomplete, TooDeep}
+use Rattle.mt_tactical.specs.Tacticals.{Sequence, Step, Choices, End, Item, Action, Skip, Semicolon}
+use Rattle.mt_tactical.specs.Tacticals.{Dot, Branches, Focus, NoBranch, Branch}
 use Rattle.mt_tactical.specs.declared.Pick.{Pick}
 use Rattle.mt_tactical.specs.declared.Pick.TheVariants as pick
-use Rattle.mt_term_parser.specs.Readings.{Reading, Got, Stops, then_read, many_from, needed, word_of, sign_of, is_word, is_name_kind, passed, sign, number, seen, sees, sees_sign, sees_word}
+use Rattle.mt_term_parser.specs.Readings.{Reading, Got, Stops, then_read, many_from, needed}
+use Rattle.mt_term_parser.specs.Readings.{word_of, sign_of, is_word, is_name_kind, passed, sign}
+use Rattle.mt_term_parser.specs.Readings.{number, seen, sees, sees_sign, sees_word}
 use Rattle.mt_term_parser.specs.Grammar.{separated}
 use Rattle.mt_tiny.specs.declared.Tiny.{Tiny}
 use Rattle.mt_tiny.specs.declared.Tiny.TheVariants as tiny
@@ -19,14 +24,19 @@ use Rattle.mt_unit_parser.specs.declared.words.Command.{Command}
 use Rattle.mt_unit_parser.specs.declared.words.Command.TheVariants as command
 use Rattle.mt_unit_parser.specs.declared.words.Lead.{Lead}
 use Rattle.mt_unit_parser.specs.declared.words.Lead.TheVariants as lead
-use Rattle.mt_unit_parser.specs.WrittenUnits.{WrittenAction, WrittenKind, WrittenUnit, Step as OneStep, Block}
-use Rattle.mt_unit_parser.specs.Units.{is_spelled, spelled, nums, constraint, assumed, theorem, defined, inductive, letting, hint, coercion, qed, verb_of, action}
+use Rattle.mt_unit_parser.specs.WrittenUnits.{WrittenAction, WrittenKind, WrittenUnit}
+use Rattle.mt_unit_parser.specs.WrittenUnits.{Step as OneStep, Block}
+use Rattle.mt_unit_parser.specs.Units.{is_spelled, spelled, nums, constraint, assumed, theorem}
+use Rattle.mt_unit_parser.specs.Units.{defined, inductive, letting, hint, coercion, qed, verb_of}
+use Rattle.mt_unit_parser.specs.Units.{action}
 
 -- ---- items
 
 abbrev pub lead_of_sign : ℕ → Lead
 lead_of_sign c =
-    if c == 91 then lead.Open else (if c == 59 then lead.Semicolon else (if c == 46 then lead.Dot else lead.Other))
+    if c == 91
+    then lead.Open
+    else (if c == 59 then lead.Semicolon else (if c == 46 then lead.Dot else lead.Other))
 
 abbrev pub lead_of_rest : List ℕ → Token → Lead
 lead_of_rest text t =
@@ -99,7 +109,8 @@ is_number_kind _ = false
 -- nums ":" with the place of the first number
 abbrev pub positions : List ℕ → Token → Reading Pick
 positions text t =
-    then_read (nums text t.start) (λ ns a. then_read (sign 58 text a) (λ _ end. Got (pick.Positions t.start ns) end))
+    then_read (nums text t.start)
+    (λ ns a. then_read (sign 58 text a) (λ _ end. Got (pick.Positions t.start ns) end))
 
 -- "*" ":"
 abbrev pub rest_of : List ℕ → Token → Reading Pick
@@ -108,7 +119,9 @@ rest_of text t = then_read (sign 58 text t.end) (λ _ end. Got (pick.Rest t.star
 abbrev pub pick_by : Option Token → List ℕ → ℕ → Reading Pick
 pick_by None text at = Got pick.Next at
 pick_by (Some t) text at =
-    if is_number_kind t.kind then positions text t else (if sign_of text t == 42 then rest_of text t else Got pick.Next at)
+    if is_number_kind t.kind
+    then positions text t
+    else (if sign_of text t == 42 then rest_of text t else Got pick.Next at)
 
 -- [nums ":" | "*" ":"]
 abbrev pub picked : List ℕ → ℕ → Reading Pick
@@ -128,7 +141,8 @@ barred inner text at = then_read (placed 124 text at) (λ start a. branch inner 
 abbrev pub branch_list : (ℕ → Reading Block') → List ℕ → ℕ → ℕ → Reading (List WrittenBranch)
 branch_list inner text start at =
     then_read (branch inner text start at) (λ b a.
-    then_read (many_from text (sees_sign 124 text) (barred inner text) a) (λ more end. Got (b ∷ more) end))
+    then_read (many_from text (sees_sign 124 text) (barred inner text) a)
+    (λ more end. Got (b ∷ more) end))
 
 -- br { "|" br } "]" after "["
 abbrev pub branches : (ℕ → Reading Block') → List ℕ → ℕ → ℕ → Reading Step'
@@ -143,10 +157,12 @@ is_dot _ = false
 -- ";" or "."
 abbrev pub separator : List ℕ → ℕ → Reading (Bool × ℕ)
 separator text at =
-    then_read (needed text at) (λ t _. passed (is_separator (lead_of text t)) t (is_dot (lead_of text t), t.start))
+    then_read (needed text at)
+    (λ t _. passed (is_separator (lead_of text t)) t (is_dot (lead_of text t), t.start))
 
 abbrev pub unfocus_place : List ℕ → ℕ → Reading ℕ
-unfocus_place text at = then_read (needed text at) (λ t _. passed (is_spelled (codes "unfocus") text t) t t.start)
+unfocus_place text at =
+    then_read (needed text at) (λ t _. passed (is_spelled (codes "unfocus") text t) t t.start)
 
 -- nums (";" | ".") seq "unfocus" after "focus"
 abbrev pub focus : (ℕ → Reading Block') → List ℕ → ℕ → ℕ → Reading Step'
@@ -158,16 +174,20 @@ focus inner text start at =
 
 -- the item that begins with this token, within so many sequences
 abbrev pub item_by : Lead → ℕ → (ℕ → Reading Block') → List ℕ → Token → Reading Step'
-item_by (lead.Action v) depth inner text t = then_read (action v depth text t) (λ a end. Got (Action t.start a) end)
+item_by (lead.Action v) depth inner text t =
+    then_read (action v depth text t) (λ a end. Got (Action t.start a) end)
 item_by lead.Skip depth inner text t = Got (Skip t.start) t.end
 item_by lead.Open depth inner text t = branches inner text t.start t.end
 item_by lead.Focus depth inner text t = focus inner text t.start t.end
 item_by _ depth inner text t = Stops Syntax t.start
 
-abbrev pub optional_by : Option Token → ℕ → (ℕ → Reading Block') → List ℕ → ℕ → Reading (Option Step')
+abbrev pub optional_by : Option Token → ℕ → (ℕ → Reading Block') → List ℕ → ℕ
+    → Reading (Option Step')
 optional_by None depth inner text at = Got None at
 optional_by (Some t) depth inner text at =
-    if begins_item (lead_of text t) then then_read (item_by (lead_of text t) depth inner text t) (λ s end. Got (Some s) end) else Got None at
+    if begins_item (lead_of text t)
+    then then_read (item_by (lead_of text t) depth inner text t) (λ s end. Got (Some s) end)
+    else Got None at
 
 -- an item, or nothing
 abbrev pub optional_item : ℕ → (ℕ → Reading Block') → List ℕ → ℕ → Reading (Option Step')
@@ -180,7 +200,8 @@ separated_by s = if s.0 then Dot s.1 else Semicolon s.1
 abbrev pub led_item : ℕ → (ℕ → Reading Block') → List ℕ → ℕ → Reading WrittenLed
 led_item depth inner text at =
     then_read (separator text at) (λ s a.
-    then_read (optional_item depth inner text a) (λ i end. Got (record { sign = separated_by s; item = i }) end))
+    then_read (optional_item depth inner text a)
+    (λ i end. Got (record { sign = separated_by s; item = i }) end))
 
 abbrev pub sees_separator : List ℕ → ℕ → Bool
 sees_separator text at = sees (λ t. is_separator (lead_of text t)) text at
@@ -189,11 +210,14 @@ sees_separator text at = sees (λ t. is_separator (lead_of text t)) text at
 abbrev pub items : ℕ → (ℕ → Reading Block') → List ℕ → ℕ → Reading Block'
 items depth inner text at =
     then_read (optional_item depth inner text at) (λ first a.
-    then_read (many_from text (sees_separator text) (led_item depth inner text) a) (λ rest end. Got (item_onto first (led_onto rest End)) end))
+    then_read (many_from text (sees_separator text) (led_item depth inner text) a)
+    (λ rest end. Got (item_onto first (led_onto rest End)) end))
 
 -- what may follow a sequence
 abbrev pub ends_sequence : List ℕ → Token → Bool
-ends_sequence text t = (sign_of text t == 125) || (sign_of text t == 124) || (sign_of text t == 93) || is_spelled (codes "unfocus") text t
+ends_sequence text t =
+    (sign_of text t == 125) || (sign_of text t == 124) || (sign_of text t == 93)
+    || is_spelled (codes "unfocus") text t
 
 abbrev pub full_at : Lead → ℕ → Reading Block'
 full_at l place = Stops (if begins_item l || is_separator l then TooDeep else Syntax) place
@@ -216,11 +240,13 @@ closes c = (c == 46) || (c == 59) || (c == 91) || (c == 124) || (c == 93) || (c 
 -- a unit that ends here, where the next token has to close it
 abbrev pub phrase : ℕ → WrittenKind → List ℕ → ℕ → Reading WrittenUnit
 phrase start k text end =
-    then_read (needed text end) (λ t _. passed (closes (sign_of text t)) t (record { start = start; end = end; seen = t.end; kind = k }))
+    then_read (needed text end)
+    (λ t _. passed (closes (sign_of text t)) t (record { start = start; end = end; seen = t.end; kind = k }))
 
 -- any other unit
 abbrev pub plain : ℕ → Reading WrittenKind → Reading WrittenUnit
-plain start r = then_read r (λ k end. Got (record { start = start; end = end; seen = end; kind = k }) end)
+plain start r =
+    then_read r (λ k end. Got (record { start = start; end = end; seen = end; kind = k }) end)
 
 -- ---- what a unit begins with
 
@@ -260,11 +286,15 @@ command_by command.Other text t = Stops Syntax t.start
 
 -- "{" seq "}"
 abbrev pub block : List ℕ → ℕ → Reading WrittenKind
-block text at = then_read (sequence 200 text at) (λ s a. then_read (sign 125 text a) (λ _ end. Got (Block s) end))
+block text at =
+    then_read (sequence 200 text at)
+    (λ s a. then_read (sign 125 text a) (λ _ end. Got (Block s) end))
 
 -- nums ":"
 abbrev pub named : List ℕ → Token → Reading WrittenKind
-named text t = then_read (nums text t.start) (λ ns a. then_read (sign 58 text a) (λ _ end. Got (OneStep (tiny.Positions ns)) end))
+named text t =
+    then_read (nums text t.start)
+    (λ ns a. then_read (sign 58 text a) (λ _ end. Got (OneStep (tiny.Positions ns)) end))
 
 -- "*" ":"
 abbrev pub all_named : List ℕ → ℕ → Reading WrittenKind
@@ -278,17 +308,22 @@ signed_step c text t =
     (if c == 123 then block text t.end else Stops Syntax t.start)))
 
 abbrev pub other_kind : List ℕ → Token → Reading WrittenKind
-other_kind text t = if is_number_kind t.kind then named text t else signed_step (sign_of text t) text t
+other_kind text t =
+    if is_number_kind t.kind then named text t else signed_step (sign_of text t) text t
 
 abbrev pub other_step : List ℕ → Token → Reading WrittenUnit
 other_step text t =
-    if is_spelled (codes "unfocus") text t then phrase t.start (OneStep tiny.Unfocus) text t.end else plain t.start (other_kind text t)
+    if is_spelled (codes "unfocus") text t
+    then phrase t.start (OneStep tiny.Unfocus) text t.end
+    else plain t.start (other_kind text t)
 
 -- a single step, or a block
 abbrev pub step_by : Lead → List ℕ → Token → Reading WrittenUnit
-step_by (lead.Action v) text t = then_read (action v 0 text t) (λ a end. phrase t.start (OneStep (tiny.Action a)) text end)
+step_by (lead.Action v) text t =
+    then_read (action v 0 text t) (λ a end. phrase t.start (OneStep (tiny.Action a)) text end)
 step_by lead.Skip text t = phrase t.start (OneStep tiny.Skip) text t.end
-step_by lead.Focus text t = then_read (nums text t.end) (λ ns end. phrase t.start (OneStep (tiny.Focus ns)) text end)
+step_by lead.Focus text t =
+    then_read (nums text t.end) (λ ns end. phrase t.start (OneStep (tiny.Focus ns)) text end)
 step_by lead.Open text t = plain t.start (Got (OneStep tiny.BranchOpen) t.end)
 step_by lead.Semicolon text t = plain t.start (Got (OneStep tiny.Semicolon) t.end)
 step_by lead.Dot text t = plain t.start (Got (OneStep tiny.Dot) t.end)
@@ -301,7 +336,9 @@ is_command _ = true
 -- the unit that begins with this token
 abbrev pub unit_by : List ℕ → Token → Reading WrittenUnit
 unit_by text t =
-    if is_command (command_of text t) then plain t.start (command_by (command_of text t) text t) else step_by (lead_of text t) text t
+    if is_command (command_of text t)
+    then plain t.start (command_by (command_of text t) text t)
+    else step_by (lead_of text t) text t
 
 abbrev pub unit_from_kind : TokenKind → List ℕ → Token → Reading (Option WrittenUnit)
 unit_from_kind kind.End text t = Got None 0

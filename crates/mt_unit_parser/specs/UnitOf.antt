@@ -19,7 +19,13 @@ use Rattle.mt_unit_parser.specs.declared.units.UnitKind.TheVariants as kind
 use Rattle.mt_unit_parser.specs.declared.units.Unit.{Unit as ProgramUnit}
 use Rattle.mt_unit_parser.specs.declared.units.Parsed.{Parsed}
 use Rattle.mt_unit_parser.specs.declared.units.Parsed.TheVariants as parsed
-use Rattle.mt_unit_parser.specs.WrittenUnits.{WrittenGroup, WrittenCon, WrittenType, WrittenFunction, WrittenEq, Deed, WrittenAction, WrittenKind, WrittenUnit, Intro, Exact, Refine, Apply, Cut, Lapply, Change, Whd, Normalize, Assumption, Constructor, Generalize, Clear, Cases, Elim, Constraint, Axiom, Definition, Inductive, Recursive, Hint, Coercion, Theorem, Qed, Step, Block}
+use Rattle.mt_unit_parser.specs.WrittenUnits.{WrittenGroup, WrittenCon, WrittenType}
+use Rattle.mt_unit_parser.specs.WrittenUnits.{WrittenFunction, WrittenEq, Deed, WrittenAction}
+use Rattle.mt_unit_parser.specs.WrittenUnits.{WrittenKind, WrittenUnit, Intro, Exact, Refine, Apply}
+use Rattle.mt_unit_parser.specs.WrittenUnits.{Cut, Lapply, Change, Whd, Normalize, Assumption}
+use Rattle.mt_unit_parser.specs.WrittenUnits.{Constructor, Generalize, Clear, Cases, Elim}
+use Rattle.mt_unit_parser.specs.WrittenUnits.{Constraint, Axiom, Definition, Inductive, Recursive}
+use Rattle.mt_unit_parser.specs.WrittenUnits.{Hint, Coercion, Theorem, Qed, Step, Block}
 
 abbrev pub group_of : Group → WrittenGroup
 group_of g = record { name = g.name; type = written_of g.ty }
@@ -31,7 +37,14 @@ abbrev pub type_of : RawType → WrittenType
 type_of t = record { name = t.name; arity = written_of t.arity; cons = map con_of t.cons }
 
 abbrev pub function_of : RawFunction → WrittenFunction
-function_of f = record { name = f.name; groups = map group_of f.groups; on = f.on; type = written_of f.ty; body = written_of f.body }
+function_of f =
+    record {
+      name = f.name;
+      groups = map group_of f.groups;
+      on = f.on;
+      type = written_of f.ty;
+      body = written_of f.body;
+    }
 
 abbrev pub eq_of : RawEq → WrittenEq
 eq_of e = record { name = e.name; term = written_of e.term }
@@ -80,7 +93,8 @@ kind_of (kind.Axiom x T) = Axiom x (written_of T)
 kind_of (kind.Definition x T t) = Definition x (optional_of T) (written_of t)
 kind_of (kind.Inductive co groups types) = Inductive co (map group_of groups) (map type_of types)
 kind_of (kind.Recursive co functions) = Recursive co (map function_of functions)
-kind_of (kind.Hint n vars eqs t u) = Hint n (map group_of vars) (map eq_of eqs) (written_of t) (written_of u)
+kind_of (kind.Hint n vars eqs t u) =
+    Hint n (map group_of vars) (map eq_of eqs) (written_of t) (written_of u)
 kind_of (kind.Coercion x) = Coercion x
 kind_of (kind.Theorem x T) = Theorem x (written_of T)
 kind_of kind.Qed = Qed
@@ -88,7 +102,8 @@ kind_of (kind.Step s) = Step (tiny_of s)
 kind_of (kind.Block b) = Block (sequence_of action_of b)
 
 abbrev pub unit_of : ProgramUnit → WrittenUnit
-unit_of u = record { start = u.span.start; end = u.span.end; seen = u.span.seen; kind = kind_of u.kind }
+unit_of u =
+    record { start = u.span.start; end = u.span.end; seen = u.span.seen; kind = kind_of u.kind }
 
 abbrev pub parsed_of : Parsed → Option WrittenUnit
 parsed_of (parsed.Unit u) = Some (unit_of u)

@@ -1,18 +1,28 @@
 -- The grammar of commands and single steps.
-use Rattle.std.specs.Prelude.{ℕ, ◌+◌, Bool, true, false, ◌||◌, ◌&&◌, ◌==◌, if◌then◌else◌, List, [], ◌∷◌, codes, bytes_eq, Option, Some, None}
+use Rattle.std.specs.Prelude.{ℕ, ◌+◌, Bool, true, false, ◌||◌, ◌&&◌, ◌==◌, if◌then◌else◌, List, []}
+use Rattle.std.specs.Prelude.{◌∷◌, codes, bytes_eq, Option, Some, None}
 use Rattle.mt_lexer.specs.declared.Token.{Token}
 use Rattle.mt_lexer.specs.declared.TokenKind.{TokenKind}
 use Rattle.mt_lexer.specs.declared.TokenKind.TheVariants as kind
 use Rattle.mt_lexer.specs.declared.LexStop.{LexStop}
 use Rattle.mt_lexer.specs.declared.LexStop.TheVariants as lex
 use Rattle.mt_lexer.specs.Tokens.{next_token}
-use Rattle.mt_term.specs.Declarations.{Lex, Syntax, Incomplete}
+use Rattle.mt_term.specs.Reasons.{Lex, Syntax, Incomplete}
 use Rattle.mt_term_parser.specs.Written.{Bytes, Written, Domain, Absent, Given}
-use Rattle.mt_term_parser.specs.Readings.{Reading, Got, Stops, then_read, many_from, needed, word_of, sign_of, is_word, is_name, is_name_kind, passed, sign, word, name, binder, number, sees, sees_sign, sees_word}
+use Rattle.mt_term_parser.specs.Readings.{Reading, Got, Stops, then_read, many_from, needed}
+use Rattle.mt_term_parser.specs.Readings.{word_of, sign_of, is_word, is_name, is_name_kind, passed}
+use Rattle.mt_term_parser.specs.Readings.{sign, word, name, binder, number, sees, sees_sign}
+use Rattle.mt_term_parser.specs.Readings.{sees_word}
 use Rattle.mt_term_parser.specs.Grammar.{term_at, led, separated, domain}
 use Rattle.mt_unit_parser.specs.declared.words.Verb.{Verb}
 use Rattle.mt_unit_parser.specs.declared.words.Verb.TheVariants as verb
-use Rattle.mt_unit_parser.specs.WrittenUnits.{WrittenGroup, WrittenCon, WrittenType, WrittenFunction, WrittenEq, Deed, WrittenAction, WrittenKind, Intro, Exact, Refine, Apply, Cut, Lapply, Change, Whd, Normalize, Assumption, Constructor, Generalize, Clear, Cases, Elim, Constraint, Axiom, Definition, Inductive, Recursive, Hint, Coercion, Theorem, Qed}
+use Rattle.mt_unit_parser.specs.WrittenUnits.{WrittenGroup, WrittenCon, WrittenType}
+use Rattle.mt_unit_parser.specs.WrittenUnits.{WrittenFunction, WrittenEq, Deed, WrittenAction}
+use Rattle.mt_unit_parser.specs.WrittenUnits.{WrittenKind, Intro, Exact, Refine, Apply, Cut, Lapply}
+use Rattle.mt_unit_parser.specs.WrittenUnits.{Change, Whd, Normalize, Assumption, Constructor}
+use Rattle.mt_unit_parser.specs.WrittenUnits.{Generalize, Clear, Cases, Elim, Constraint, Axiom}
+use Rattle.mt_unit_parser.specs.WrittenUnits.{Definition, Inductive, Recursive, Hint, Coercion}
+use Rattle.mt_unit_parser.specs.WrittenUnits.{Theorem, Qed}
 
 -- a term of a command
 abbrev pub whole : List ℕ → ℕ → Reading Written
@@ -31,15 +41,21 @@ after_sign c text at = then_read (sign c text at) (λ _ a. whole text a)
 
 -- name ":" term
 abbrev pub head : List ℕ → ℕ → Reading WrittenGroup
-head text at = then_read (name text at) (λ x a. then_read (after_sign 58 text a) (λ T end. Got (record { name = x; type = T }) end))
+head text at =
+    then_read (name text at)
+    (λ x a. then_read (after_sign 58 text a) (λ T end. Got (record { name = x; type = T }) end))
 
 -- x ":" term
 abbrev pub variable : List ℕ → ℕ → Reading WrittenGroup
-variable text at = then_read (binder text at) (λ x a. then_read (after_sign 58 text a) (λ T end. Got (record { name = x; type = T }) end))
+variable text at =
+    then_read (binder text at)
+    (λ x a. then_read (after_sign 58 text a) (λ T end. Got (record { name = x; type = T }) end))
 
 -- group = "(" x ":" term ")"
 abbrev pub group : List ℕ → ℕ → Reading WrittenGroup
-group text at = then_read (sign 40 text at) (λ _ a. then_read (variable text a) (λ g b. then_read (sign 41 text b) (λ _ end. Got g end)))
+group text at =
+    then_read (sign 40 text at)
+    (λ _ a. then_read (variable text a) (λ g b. then_read (sign 41 text b) (λ _ end. Got g end)))
 
 abbrev pub groups : List ℕ → ℕ → Reading (List WrittenGroup)
 groups text at = many_from text (sees_sign 40 text) (group text) at
@@ -71,11 +87,15 @@ theorem text at = then_read (stated text at) (λ g end. Got (Theorem g.name g.ty
 
 -- [":" term]
 abbrev pub optional_type : List ℕ → ℕ → Reading Domain
-optional_type text at = if sees_sign 58 text at then then_read (after_sign 58 text at) (λ T end. Got (Given T) end) else Got Absent at
+optional_type text at =
+    if sees_sign 58 text at
+    then then_read (after_sign 58 text at) (λ T end. Got (Given T) end)
+    else Got Absent at
 
 -- "≝" term "."
 abbrev pub body : List ℕ → ℕ → Reading Written
-body text at = then_read (after_sign 0x225D text at) (λ t a. then_read (sign 46 text a) (λ _ end. Got t end))
+body text at =
+    then_read (after_sign 0x225D text at) (λ t a. then_read (sign 46 text a) (λ _ end. Got t end))
 
 -- name [":" term] "≝" term "."
 abbrev pub defined : List ℕ → ℕ → Reading WrittenKind
@@ -89,7 +109,8 @@ abbrev pub constructor : List ℕ → ℕ → Reading WrittenCon
 constructor text at =
     then_read (needed text at) (λ t _.
     then_read (passed (is_name text t) t (word_of text t)) (λ x a.
-    then_read (after_sign 58 text a) (λ T end. Got (record { at = t.start; name = x; type = T }) end)))
+    then_read (after_sign 58 text a)
+    (λ T end. Got (record { at = t.start; name = x; type = T }) end)))
 
 -- ["|"] [name ":" term { "|" name ":" term }]
 abbrev pub optional_bar : List ℕ → ℕ → Reading (Unit {0})
@@ -97,11 +118,13 @@ optional_bar text at = if sees_sign 124 text at then sign 124 text at else Got t
 
 abbrev pub constructors : List ℕ → ℕ → Reading (List WrittenCon)
 constructors text at =
-    then_read (optional_bar text at) (λ _ a. if sees (is_name text) text a then separated 124 text (constructor text) a else Got [] a)
+    then_read (optional_bar text at)
+    (λ _ a. if sees (is_name text) text a then separated 124 text (constructor text) a else Got [] a)
 
 -- group { group }
 abbrev pub some_groups : List ℕ → ℕ → Reading (List WrittenGroup)
-some_groups text at = then_read (group text at) (λ g a. then_read (groups text a) (λ more end. Got (g ∷ more) end))
+some_groups text at =
+    then_read (group text at) (λ g a. then_read (groups text a) (λ more end. Got (g ∷ more) end))
 
 -- a name, its groups and its type
 pub record WrittenSignature : Type 0 where
@@ -114,7 +137,8 @@ abbrev pub signature : List ℕ → ℕ → Reading WrittenSignature
 signature text at =
     then_read (name text at) (λ x a.
     then_read (groups text a) (λ gs b.
-    then_read (after_sign 58 text b) (λ T end. Got (record { name = x; groups = gs; type = T }) end)))
+    then_read (after_sign 58 text b)
+    (λ T end. Got (record { name = x; groups = gs; type = T }) end)))
 
 -- name { group } ":" term "≝" ["|"] [name ":" term { "|" name ":" term }] "."
 abbrev pub inductive : Bool → List ℕ → ℕ → Reading WrittenKind
@@ -132,7 +156,8 @@ recursion_head text at =
     then_read (some_groups text a) (λ gs b.
     then_read (spelled (codes "on") text b) (λ _ c.
     then_read (name text c) (λ y d.
-    then_read (after_sign 58 text d) (λ T end. Got (record { name = x; groups = gs; type = T }, y) end)))))
+    then_read (after_sign 58 text d)
+    (λ T end. Got (record { name = x; groups = gs; type = T }, y) end)))))
 
 abbrev pub function : WrittenSignature → Option Bytes → Written → WrittenFunction
 function s on t = record { name = s.name; groups = s.groups; on = on; type = s.type; body = t }
@@ -158,7 +183,10 @@ letting text at =
 
 -- [x ":" term { "," x ":" term }]
 abbrev pub variables : List ℕ → ℕ → Reading (List WrittenGroup)
-variables text at = if sees (λ t. is_name_kind t.kind) text at then separated 44 text (variable text) at else Got [] at
+variables text at =
+    if sees (λ t. is_name_kind t.kind) text at
+    then separated 44 text (variable text) at
+    else Got [] at
 
 -- ";" name "≟" term
 abbrev pub equation : List ℕ → ℕ → Reading WrittenEq
@@ -190,7 +218,8 @@ hint text at =
 
 -- name "."
 abbrev pub coercion : List ℕ → ℕ → Reading WrittenKind
-coercion text at = then_read (name text at) (λ x a. then_read (sign 46 text a) (λ _ end. Got (Coercion x) end))
+coercion text at =
+    then_read (name text at) (λ x a. then_read (sign 46 text a) (λ _ end. Got (Coercion x) end))
 
 abbrev pub qed : List ℕ → ℕ → Reading WrittenKind
 qed text at = then_read (sign 46 text at) (λ _ end. Got Qed end)
@@ -223,7 +252,8 @@ verb_of_sign c = if c == 35 then Some verb.Intro else (if c == 64 then Some verb
 
 -- the action that a token begins; `#` is `intro`, and `@` is `apply`
 abbrev pub verb_of : List ℕ → Token → Option Verb
-verb_of text t = if is_name_kind t.kind then verb_of_word (word_of text t) else verb_of_sign (sign_of text t)
+verb_of text t =
+    if is_name_kind t.kind then verb_of_word (word_of text t) else verb_of_sign (sign_of text t)
 
 abbrev pub with_term : Verb → Written → Deed
 with_term verb.Exact t = Exact t
@@ -248,4 +278,5 @@ deed verb.Assumption depth text at = Got Assumption at
 deed v depth text at = then_read (term_at text at depth) (λ t end. Got (with_term v t) end)
 
 abbrev pub action : Verb → ℕ → List ℕ → Token → Reading WrittenAction
-action v depth text t = then_read (deed v depth text t.end) (λ d end. Got (record { start = t.start; deed = d }) end)
+action v depth text t =
+    then_read (deed v depth text t.end) (λ d end. Got (record { start = t.start; deed = d }) end)

@@ -1,6 +1,6 @@
 // The grammar of actions and closed tacticals. `room` is how many terms and sequences more may be
-// open within the sequence at hand, and `deep` is how many steps more the tree of sequences may go
-// down: each sequence takes one, and each item of a list one more than the item before it.
+// open within the sequence at hand, and `depth_left` is how many steps more the tree of sequences
+// may go down: each sequence takes one, and each item of a list one more than the item before it.
 ghost use Rattle.std.specs.Prelude.{◌≡◌, ◌-◌, ◌<◌, ◌≤◌, [], ◌∷◌, ◌++◌, ℕ, List, length, map, IfOk, IfErr, OnOk, IsTrue};
 ghost use Rattle.std.specs.Str.{IsCharBoundary};
 ghost use Rattle.mt_tactical.specs.Tacticals.{Branches, Focus, End as NoItem, Item};
@@ -19,7 +19,8 @@ use mt_lexer::{Token, TokenKind};
 use mt_tactical::{Pick, TacBranch, TacBranches, TacItem, Tactical};
 use mt_term::{Fault, Halt, Refusal, deeper};
 use mt_term_parser::readings::{
-    binder_at, misplaced, name_at, needed, number_at, seen, sees_sign, sign_at, sign_of,
+    binder_at, misplacement, name_at, number_at, peek_token, require_token, sees_sign, sign_at,
+    sign_of,
 };
 use mt_term_parser::{Raw, term_at};
 use std::alloc::{AllocError, Global};
@@ -109,11 +110,11 @@ fn placed(sign: char, text: &str, at: usize) -> Result<(usize, usize), Halt>
     ensures end { IfOk result (λ p. IsEnd text.now at p.1) }
     ensures stop { IfErr result (StopsInText text.now) }
 {
-    let token = needed(text, at)?;
+    let token = require_token(text, at)?;
     if sign_of(text, &token) == sign {
         Ok((token.start, token.end))
     } else {
-        Err(misplaced(&token))
+        Err(misplacement(&token))
     }
 }
 
@@ -124,11 +125,11 @@ fn unfocus_place(text: &str, at: usize) -> Result<(usize, usize), Halt>
     ensures end { IfOk result (λ p. IsEnd text.now at p.1) }
     ensures stop { IfErr result (StopsInText text.now) }
 {
-    let token = needed(text, at)?;
+    let token = require_token(text, at)?;
     if is_spelled("unfocus", text, &token) {
         Ok((token.start, token.end))
     } else {
-        Err(misplaced(&token))
+        Err(misplacement(&token))
     }
 }
 
@@ -139,12 +140,12 @@ fn separator(text: &str, at: usize) -> Result<((bool, usize), usize), Halt>
     ensures end { IfOk result (λ p. IsEnd text.now at p.1) }
     ensures stop { IfErr result (StopsInText text.now) }
 {
-    let token = needed(text, at)?;
+    let token = require_token(text, at)?;
     let lead = lead_of(text, &token);
     if is_separator(lead) {
         Ok(((is_dot(lead), token.start), token.end))
     } else {
-        Err(misplaced(&token))
+        Err(misplacement(&token))
     }
 }
 
@@ -153,7 +154,7 @@ fn sees_separator(text: &str, at: usize) -> bool
     ensures value { result ≡ sees_separator text.now at }
     ensures inside { IsTrue result → at < length text.now }
 {
-    match seen(text, at) {
+    match peek_token(text, at) {
         Some(token) => is_separator(lead_of(text, &token)),
         None => false,
     }
@@ -180,7 +181,7 @@ fn picked(alloc: Global, text: &str, at: usize) -> Result<(Pick, usize), Halt>
     ensures end { IfOk result (λ p. (at ≤ p.1) × IsCharBoundary text.now p.1) }
     ensures stop { IfErr result (StopsInText text.now) }
 {
-    let Some(token) = seen(text, at) else {
+    let Some(token) = peek_token(text, at) else {
         return Ok((Pick::Next, at));
     };
     if is_number(&token) {
@@ -211,7 +212,7 @@ const NESTING: usize = 200;
 pub fn sequence(
     alloc: Global,
     room: usize,
-    deep: usize,
+    depth_left: usize,
     text: &str,
     at: usize,
 ) -> Result<(Tactical<Action>, usize), Halt>
@@ -224,8 +225,8 @@ pub fn sequence(
     if room == 0 {
         return no_sequence(text, at);
     }
-    let deep = deeper(deep)?;
-    items(alloc, room - 1, deep, text, at)
+    let depth_left = deeper(depth_left)?;
+    items(alloc, room - 1, depth_left, text, at)
 }
 
 // An empty sequence, where no further one may be open.
@@ -235,7 +236,7 @@ fn no_sequence(text: &str, at: usize) -> Result<(Tactical<Action>, usize), Halt>
     ensures end { IfOk result (λ p. (at ≤ p.1) × IsCharBoundary text.now p.1) }
     ensures stop { IfErr result (StopsInText text.now) }
 {
-    let token = needed(text, at)?;
+    let token = require_token(text, at)?;
     if ends_sequence(text, &token) {
         return Ok((Tactical::End, at));
     }
@@ -252,7 +253,7 @@ fn full(lead: Lead, token: &Token) -> Halt
             at: token.start,
         })
     } else {
-        misplaced(token)
+        misplacement(token)
     }
 }
 
@@ -261,7 +262,7 @@ fn full(lead: Lead, token: &Token) -> Halt
 fn items(
     alloc: Global,
     room: usize,
-    deep: usize,
+    depth_left: usize,
     text: &str,
     at: usize,
 ) -> Result<(Tactical<Action>, usize), Halt>
@@ -271,8 +272,8 @@ fn items(
     ensures end { IfOk result (λ p. (at ≤ p.1) × IsCharBoundary text.now p.1) }
     ensures stop { IfErr result (StopsInText text.now) }
 {
-    let (first, after_first) = optional_item(alloc, room, deep, text, at)?;
-    let (rest, end) = led_items(alloc, room, deep, text, after_first)?;
+    let (first, after_first) = optional_item(alloc, room, depth_left, text, at)?;
+    let (rest, end) = led_items(alloc, room, depth_left, text, after_first)?;
     Ok((item_onto(alloc, first, led_onto(alloc, rest)?)?, end))
 }
 
@@ -281,7 +282,7 @@ fn items(
 fn led_items(
     alloc: Global,
     room: usize,
-    deep: usize,
+    depth_left: usize,
     text: &str,
     at: usize,
 ) -> Result<(Vec<Led>, usize), Halt>
@@ -292,11 +293,11 @@ fn led_items(
     ensures stop { IfErr result (StopsInText text.now) }
 {
     let mut items = Vec::new(alloc);
-    let mut deep = deep;
+    let mut depth_left = depth_left;
     let mut end = at;
     'row: while sees_separator(text, end) {
-        deep = deeper(deep)?;
-        let (item, last) = led_item(alloc, room, deep, text, end)?;
+        depth_left = deeper(depth_left)?;
+        let (item, last) = led_item(alloc, room, depth_left, text, end)?;
         push_led(&mut items, item)?;
         end = last;
     }
@@ -323,7 +324,7 @@ fn push_led(items: &mut Vec<Led>, item: Led) -> Result<(), AllocError>
 fn led_item(
     alloc: Global,
     room: usize,
-    deep: usize,
+    depth_left: usize,
     text: &str,
     at: usize,
 ) -> Result<(Led, usize), Halt>
@@ -334,7 +335,7 @@ fn led_item(
     ensures stop { IfErr result (StopsInText text.now) }
 {
     let ((dot, place), after_sign) = separator(text, at)?;
-    let (item, end) = optional_item(alloc, room, deep, text, after_sign)?;
+    let (item, end) = optional_item(alloc, room, depth_left, text, after_sign)?;
     Ok((Led { dot, place, item }, end))
 }
 
@@ -343,7 +344,7 @@ fn led_item(
 fn optional_item(
     alloc: Global,
     room: usize,
-    deep: usize,
+    depth_left: usize,
     text: &str,
     at: usize,
 ) -> Result<(Option<TacItem<Action>>, usize), Halt>
@@ -353,14 +354,14 @@ fn optional_item(
     ensures end { IfOk result (λ p. (at ≤ p.1) × IsCharBoundary text.now p.1) }
     ensures stop { IfErr result (StopsInText text.now) }
 {
-    let Some(token) = seen(text, at) else {
+    let Some(token) = peek_token(text, at) else {
         return Ok((None, at));
     };
     let lead = lead_of(text, &token);
     if !begins_item(lead) {
         return Ok((None, at));
     }
-    let (item, end) = item_by(alloc, lead, room, deep, text, &token)?;
+    let (item, end) = item_by(alloc, lead, room, depth_left, text, &token)?;
     Ok((Some(item), end))
 }
 
@@ -370,7 +371,7 @@ fn item_by(
     alloc: Global,
     lead: Lead,
     room: usize,
-    deep: usize,
+    depth_left: usize,
     text: &str,
     token: &Token,
 ) -> Result<(TacItem<Action>, usize), Halt>
@@ -388,9 +389,9 @@ fn item_by(
             Ok((TacItem::Action(token.start, action), end))
         }
         Lead::Skip => Ok((TacItem::Skip(token.start), token.end)),
-        Lead::Open => branches(alloc, room, deep, text, token.start, token.end),
-        Lead::Focus => focus(alloc, room, deep, text, token.start, token.end),
-        _ => Err(misplaced(token)),
+        Lead::Open => branches(alloc, room, depth_left, text, token.start, token.end),
+        Lead::Focus => focus(alloc, room, depth_left, text, token.start, token.end),
+        _ => Err(misplacement(token)),
     }
 }
 
@@ -399,7 +400,7 @@ fn item_by(
 fn branches(
     alloc: Global,
     room: usize,
-    deep: usize,
+    depth_left: usize,
     text: &str,
     start: usize,
     at: usize,
@@ -410,7 +411,7 @@ fn branches(
     ensures end { IfOk result (λ p. IsEnd text.now at p.1) }
     ensures stop { IfErr result (StopsInText text.now) }
 {
-    let (list, last) = branch_list(alloc, room, deep, text, start, at)?;
+    let (list, last) = branch_list(alloc, room, depth_left, text, start, at)?;
     let (close, end) = placed(']', text, last)?;
     let branches = branches_of(alloc, list)?;
     Ok((TacItem::Branches { branches, close }, end))
@@ -421,7 +422,7 @@ fn branches(
 fn branch_list(
     alloc: Global,
     room: usize,
-    deep: usize,
+    depth_left: usize,
     text: &str,
     start: usize,
     at: usize,
@@ -433,12 +434,12 @@ fn branch_list(
     ensures stop { IfErr result (StopsInText text.now) }
 {
     let mut list = Vec::new(alloc);
-    let (first, mut end) = branch(alloc, room, deep, text, start, at)?;
+    let (first, mut end) = branch(alloc, room, depth_left, text, start, at)?;
     push_branch(&mut list, first)?;
-    let mut deep = deep;
+    let mut depth_left = depth_left;
     'row: while sees_sign('|', text, end) {
-        deep = deeper(deep)?;
-        let (item, last) = barred(alloc, room, deep, text, end)?;
+        depth_left = deeper(depth_left)?;
+        let (item, last) = barred(alloc, room, depth_left, text, end)?;
         push_branch(&mut list, item)?;
         end = last;
     }
@@ -460,7 +461,7 @@ fn push_branch(
 fn barred(
     alloc: Global,
     room: usize,
-    deep: usize,
+    depth_left: usize,
     text: &str,
     at: usize,
 ) -> Result<(TacBranch<Action>, usize), Halt>
@@ -471,7 +472,7 @@ fn barred(
     ensures stop { IfErr result (StopsInText text.now) }
 {
     let (start, after_bar) = placed('|', text, at)?;
-    branch(alloc, room, deep, text, start, after_bar)
+    branch(alloc, room, depth_left, text, start, after_bar)
 }
 
 // `[nums ":" | "*" ":"] seq`, where the sign before it stands at `start`.
@@ -479,7 +480,7 @@ fn barred(
 fn branch(
     alloc: Global,
     room: usize,
-    deep: usize,
+    depth_left: usize,
     text: &str,
     start: usize,
     at: usize,
@@ -491,7 +492,7 @@ fn branch(
     ensures stop { IfErr result (StopsInText text.now) }
 {
     let (pick, after_pick) = picked(alloc, text, at)?;
-    let (body, end) = sequence(alloc, room, deep, text, after_pick)?;
+    let (body, end) = sequence(alloc, room, depth_left, text, after_pick)?;
     Ok((
         TacBranch {
             at: start,
@@ -507,7 +508,7 @@ fn branch(
 fn focus(
     alloc: Global,
     room: usize,
-    deep: usize,
+    depth_left: usize,
     text: &str,
     at: usize,
     from: usize,
@@ -520,7 +521,7 @@ fn focus(
 {
     let (numbers, after_numbers) = nums_at(alloc, text, from)?;
     let ((dot, sign), after_sign) = separator(text, after_numbers)?;
-    let (body, after_body) = sequence(alloc, room, deep, text, after_sign)?;
+    let (body, after_body) = sequence(alloc, room, depth_left, text, after_sign)?;
     let (unfocus, end) = unfocus_place(text, after_body)?;
     Ok((
         TacItem::Focus {

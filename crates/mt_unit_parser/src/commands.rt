@@ -17,8 +17,8 @@ use crate::units::{
 use mt_lexer::Token;
 use mt_term::{Halt, Name};
 use mt_term_parser::readings::{
-    binder_at, is_name, is_name_kind, misplaced, name_at, name_of, needed, number_at, sees_binder,
-    sees_name, sees_sign, sign_at, word_of,
+    binder_at, is_name, is_name_kind, misplacement, name_at, name_of, number_at, require_token,
+    sees_binder, sees_name, sees_sign, sign_at, word_of,
 };
 use mt_term_parser::{Raw, term_at};
 use mt_tiny::Goals;
@@ -41,11 +41,11 @@ fn spelled(wanted: &str, text: &str, at: usize) -> Result<usize, Halt>
     ensures end { IfOk result (IsEnd text.now at) }
     ensures stop { IfErr result (StopsInText text.now) }
 {
-    let token = needed(text, at)?;
+    let token = require_token(text, at)?;
     if is_spelled(wanted, text, &token) {
         Ok(token.end)
     } else {
-        Err(misplaced(&token))
+        Err(misplacement(&token))
     }
 }
 
@@ -199,7 +199,7 @@ fn stated(alloc: Global, text: &str, at: usize) -> Result<(Group, usize), Halt>
 }
 
 /// `name ":" term "."`, after `axiom`.
-pub fn assumed(alloc: Global, text: &str, at: usize) -> Result<(UnitKind, usize), Halt>
+pub fn axiom_unit(alloc: Global, text: &str, at: usize) -> Result<(UnitKind, usize), Halt>
     requires { IsCharBoundary text.now at }
     ensures reads { Reads kind_of (assumed text.now at) result }
     ensures end { IfOk result (λ p. IsEnd text.now at p.1) }
@@ -249,7 +249,7 @@ fn body_at(alloc: Global, text: &str, at: usize) -> Result<(Raw, usize), Halt>
 }
 
 /// `name [":" term] "≝" term "."`, after `definition`.
-pub fn defined(alloc: Global, text: &str, at: usize) -> Result<(UnitKind, usize), Halt>
+pub fn definition_unit(alloc: Global, text: &str, at: usize) -> Result<(UnitKind, usize), Halt>
     requires { IsCharBoundary text.now at }
     ensures reads { Reads kind_of (defined text.now at) result }
     ensures end { IfOk result (λ p. IsEnd text.now at p.1) }
@@ -268,9 +268,9 @@ fn constructor(alloc: Global, text: &str, at: usize) -> Result<(RawCon, usize), 
     ensures end { IfOk result (λ p. IsEnd text.now at p.1) }
     ensures stop { IfErr result (StopsInText text.now) }
 {
-    let token = needed(text, at)?;
+    let token = require_token(text, at)?;
     if !is_name(text, &token) {
-        return Err(misplaced(&token));
+        return Err(misplacement(&token));
     }
     let name = name_of(alloc, text, &token)?;
     let (ty, end) = after_sign(':', alloc, text, token.end)?;
@@ -401,13 +401,13 @@ pub fn letting(alloc: Global, text: &str, at: usize) -> Result<(UnitKind, usize)
     ensures end { IfOk result (λ p. IsEnd text.now at p.1) }
     ensures stop { IfErr result (StopsInText text.now) }
 {
-    let token = needed(text, at)?;
+    let token = require_token(text, at)?;
     if is_spelled("rec", text, &token) {
         recursion(alloc, text, token.end)
     } else if is_spelled("corec", text, &token) {
         corecursion(alloc, text, token.end)
     } else {
-        Err(misplaced(&token))
+        Err(misplacement(&token))
     }
 }
 

@@ -8,14 +8,14 @@ ghost use Rattle.mt_unit_parser.specs.UnitReads.{ReadsUnit, IsRead, IsSpan, IsPa
 
 use crate::blocks::{action, is_number, sequence};
 use crate::commands::{
-    assumed, coercion, constraint, defined, hint, inductive, is_spelled, letting, nums_at, qed,
-    theorem,
+    axiom_unit, coercion, constraint, definition_unit, hint, inductive, is_spelled, letting,
+    nums_at, qed, theorem,
 };
 use crate::units::{Action, Parsed, Unit, UnitKind};
 use crate::words::{Command, Lead, closes, command_of, lead_of};
 use mt_lexer::{LexStop, Token, TokenKind, next};
-use mt_term::{Fault, Halt, MOST_DEEP, Refusal};
-use mt_term_parser::readings::{misplaced, needed, sign_at, sign_of};
+use mt_term::{Fault, Halt, MAX_DEPTH, Refusal};
+use mt_term_parser::readings::{misplacement, require_token, sign_at, sign_of};
 use mt_text::UnitSpan;
 use mt_tiny::Tiny;
 use std::alloc::Global;
@@ -32,12 +32,12 @@ pub fn unit_at(alloc: Global, text: &str, at: usize) -> Result<Parsed, Halt>
             TokenKind::End => Ok(Parsed::End),
             _ => Ok(Parsed::Unit(unit_by(alloc, text, &token)?)),
         },
-        Err(LexStop::Lex(at)) => Err(refused(Refusal::Lex, at)),
-        Err(LexStop::Incomplete(at)) => Err(refused(Refusal::Incomplete, at)),
+        Err(LexStop::Lex(at)) => Err(refusal_at(Refusal::Lex, at)),
+        Err(LexStop::Incomplete(at)) => Err(refusal_at(Refusal::Incomplete, at)),
     }
 }
 
-fn refused(refusal: Refusal, at: usize) -> Halt
+fn refusal_at(refusal: Refusal, at: usize) -> Halt
     ensures { result ≡ Halt.Refused (record { refusal = refusal; at = at }) }
 {
     Halt::Refused(Fault { refusal, at })
@@ -85,8 +85,8 @@ fn command_by(
 {
     match command {
         Command::Universe => constraint(alloc, text, token.end),
-        Command::Axiom => assumed(alloc, text, token.end),
-        Command::Definition => defined(alloc, text, token.end),
+        Command::Axiom => axiom_unit(alloc, text, token.end),
+        Command::Definition => definition_unit(alloc, text, token.end),
         Command::Inductive => inductive(alloc, false, text, token.end),
         Command::Coinductive => inductive(alloc, true, text, token.end),
         Command::Let => letting(alloc, text, token.end),
@@ -94,7 +94,7 @@ fn command_by(
         Command::Coercion => coercion(alloc, text, token.end),
         Command::Theorem => theorem(alloc, text, token.end),
         Command::Qed => qed(text, token.end),
-        Command::Other => Err(misplaced(token)),
+        Command::Other => Err(misplacement(token)),
     }
 }
 
@@ -122,9 +122,9 @@ fn phrase(start: usize, kind: UnitKind, text: &str, end: usize) -> Result<Unit, 
     ensures placed { IfOk result (IsSpan text.now start) }
     ensures stop { IfErr result (StopsInText text.now) }
 {
-    let token = needed(text, end)?;
+    let token = require_token(text, end)?;
     if !closes(sign_of(text, &token)) {
-        return Err(misplaced(&token));
+        return Err(misplacement(&token));
     }
     Ok(Unit {
         span: UnitSpan {
@@ -218,7 +218,7 @@ fn signed_step(
         ']' => Ok((UnitKind::Step(Tiny::BranchClose), token.end)),
         '*' => all_named(text, token.end),
         '{' => block(alloc, text, token.end),
-        _ => Err(misplaced(token)),
+        _ => Err(misplacement(token)),
     }
 }
 
@@ -254,7 +254,7 @@ fn block(alloc: Global, text: &str, at: usize) -> Result<(UnitKind, usize), Halt
     ensures end { IfOk result (λ p. IsEnd text.now at p.1) }
     ensures stop { IfErr result (StopsInText text.now) }
 {
-    let (body, last) = sequence(alloc, 200, MOST_DEEP, text, at)?;
+    let (body, last) = sequence(alloc, 200, MAX_DEPTH, text, at)?;
     let end = sign_at('}', text, last)?;
     Ok((UnitKind::Block(body), end))
 }

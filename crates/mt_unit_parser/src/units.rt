@@ -24,7 +24,8 @@ pub struct Unit {
     pub kind: UnitKind,
 }
 
-/// What a unit says. `Step` is a single step of a proof, and `Block` is a closed tactical in braces.
+/// What a unit says. `Step` is a single step of a proof, and `Block` is a closed tactical in
+/// braces.
 #[derive(Drop)]
 pub enum UnitKind {
     Constraint(Name, Name),

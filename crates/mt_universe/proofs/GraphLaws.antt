@@ -13,7 +13,7 @@ use Rattle.mt_term.specs.Trees.{Bytes}
 use Rattle.mt_term.specs.declared.universes.UnivExpr.{UnivExpr}
 use Rattle.mt_term.specs.Universes.{Constraints, Satisfiable, IsAtMost}
 use Rattle.mt_term.specs.UniverseOrder.{path, height, more_paths, more_heights, AreLongest, at_most_by}
-use Rattle.mt_term.proofs.UniverseOrderLaws.{no_constraints, none_meets, one_more, at_most_by_decides}
+use Rattle.mt_universe.proofs.UniverseOrderLaws.{no_constraints, none_meets, one_more, at_most_by_decides}
 use Rattle.mt_universe.specs.Graphs.{Universes, IsGraph, number_of, number_or_next, named, named_in, declared, as_at, no_names}
 use Rattle.mt_universe.specs.Tables.{entry, AreFresh}
 use Rattle.mt_universe.specs.Kept.{IsKept}

@@ -5,7 +5,7 @@ use Rattle.std.proofs.lemmas.Bool.Decides.{nat_tests}
 use Rattle.std.proofs.lemmas.List.{get_or_default, get_or_past}
 use Rattle.std.proofs.Math.Seq.{take-append_seam}
 use Rattle.mt_term.specs.UniverseOrder.{joined, more_paths, more_heights}
-use Rattle.mt_term.proofs.UniverseOrderLaws.{joined_cases}
+use Rattle.mt_universe.proofs.UniverseOrderLaws.{joined_cases}
 use Rattle.mt_universe.specs.Tables.{alone, entry, AreFresh}
 
 pub entry_in : (t : List ℕ) (a b : ℕ) → a < 256 → b < 256 → entry t a b ≡ get_or t (256 * a + b) (alone a b)

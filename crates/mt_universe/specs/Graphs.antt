@@ -1,5 +1,6 @@
 -- Graphs of universes as contracts see them.
-use Rattle.std.specs.Prelude.{◌≡◌, ℕ, ◌+◌, ◌≤◌, max, if◌then◌else◌, nat_lt, List, [], ◌∷◌, ◌++◌, length, take, Option}
+use Rattle.std.specs.Prelude.{◌≡◌, ℕ, ◌+◌, ◌≤◌, max, if◌then◌else◌, nat_lt, List, [], ◌∷◌, ◌++◌}
+use Rattle.std.specs.Prelude.{length, take, Option}
 use Rattle.std.specs.List.{position, position_or_len}
 use Rattle.std.specs.Str.{bytes_eq}
 use Rattle.mt_term.specs.Trees.{Bytes}
@@ -25,7 +26,10 @@ named names x = if nat_lt (number_or_next names x) (length names) then names els
 abbrev pub declared : Universes → Bytes → Bytes → Universes
 declared g a b =
     let first = named g.names a in
-    record { names = named first b; below = g.below ++ (number_or_next g.names a, number_or_next first b) ∷ [] }
+    record {
+      names = named first b;
+      below = g.below ++ (number_or_next g.names a, number_or_next first b) ∷ [];
+    }
 
 abbrev pub no_names : Universes
 no_names = record { names = []; below = [] }
@@ -37,7 +41,8 @@ named_in (c ∷ cs) = max (max (c.0 + 1) (c.1 + 1)) (named_in cs)
 
 -- as it stood after so many constraints
 abbrev pub as_at : Universes → ℕ → Universes
-as_at g count = record { names = take (named_in (take count g.below)) g.names; below = take count g.below }
+as_at g count =
+    record { names = take (named_in (take count g.below)) g.names; below = take count g.below }
 
 -- what holds of every graph
 pub record IsGraph (g : Universes) : Type 0 where

@@ -1,5 +1,6 @@
 -- Path lengths as the program keeps them: a table with a row of 256 for each name.
-use Rattle.std.specs.Prelude.{◌≡◌, ℕ, ◌+◌, ◌*◌, ◌&&◌, ◌==◌, nat_lt, if◌then◌else◌, List, length, slice_index, slice_index_or}
+use Rattle.std.specs.Prelude.{◌≡◌, ℕ, ◌+◌, ◌*◌, ◌&&◌, ◌==◌, nat_lt, if◌then◌else◌, List, length}
+use Rattle.std.specs.Prelude.{slice_index, slice_index_or}
 
 -- how many names stand on the path of a name alone
 abbrev pub alone : ℕ → ℕ → ℕ
@@ -7,7 +8,9 @@ alone a b = if a == b then 1 else 0
 
 -- the length that a table says; a name that it does not have is on no path but its own
 unfoldable pub entry : List ℕ → ℕ → ℕ → ℕ
-entry table a b = if nat_lt a 256 && nat_lt b 256 then slice_index_or table (256 * a + b) (alone a b) else alone a b
+entry table a b =
+    if nat_lt a 256
+    && nat_lt b 256 then slice_index_or table (256 * a + b) (alone a b) else alone a b
 
 -- tables of no constraints
 pub record AreFresh (paths heights : List ℕ) : Type 0 where

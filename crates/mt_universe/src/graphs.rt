@@ -17,7 +17,8 @@ use std::alloc::{AllocError, Global};
 use std::clone::Clone;
 use std::marker::Model;
 
-/// Universe names with constraints that some valuation meets, seen as the names, by number, and the constraints, oldest first.
+/// Universe names with constraints that some valuation meets, seen as the names, by number, and the
+/// constraints, oldest first.
 #[derive(Drop)]
 pub struct Graph {
     names: Vec<Name>,
@@ -88,7 +89,9 @@ impl Graph {
         at_most(&self.paths, &self.heights, u, w)
     }
 
-    /// Adds the constraint that `a` is below `b`; each new name gets the next number. `TooMany` comes exactly where a 257th name would be needed, and then `Cycle` exactly where no valuation would meet the constraints.
+    /// Adds the constraint that `a` is below `b`; each new name gets the next number. `TooMany`
+    /// comes exactly where a 257th name would be needed, and then `Cycle` exactly where no
+    /// valuation would meet the constraints.
     pub fn declare(&mut self, a: Name, b: Name) -> Result<(), GraphStop>
         ensures added { OnOk result (self.new ≡ declared self.old a b) }
         ensures graph { OnOk result (IsGraph (declared self.old a b)) }

@@ -1,6 +1,6 @@
 use Rattle.std.proofs.Common.{rules, arith, ◌<◌, length, List, ap, subst, sym, ◌∙◌}
 use Rattle.mt_term.specs.declared.universes.Sort.{Sort as AnySort}
-use Rattle.mt_term.specs.Charges.{Outcome}
+use Rattle.mt_rules.specs.Charges.{Outcome}
 use Rattle.mt_pool.specs.declared.nodes.TermId.{TermId}
 use Rattle.mt_pool.specs.Region.{ids_of, AllBelow}
 use Rattle.mt_pool.proofs.Region.{all-below, length-kept, tree-kept, kept-then}
@@ -9,7 +9,7 @@ use Rattle.mt_store.specs.declared.metavariables.HeldMeta.{HeldMeta}
 use Rattle.mt_store.specs.Held.{store_in, StoreBelow}
 use Rattle.mt_store.proofs.HeldLaws.{store-kept, store-below}
 use Rattle.mt_layers.specs.Environments.{environment_in, EnvBelow}
-use Rattle.mt_layers.specs.Meets.{Meets}
+use Rattle.mt_rules.specs.Answers.{Answers}
 use Rattle.mt_layers.proofs.Kept.{env-kept, env-below}
 use Rattle.mt_infer.proofs.Held.{scope-kept, scope-below}
 use Rattle.mt_infer.proofs.Matches.{arity-kept}
@@ -29,7 +29,7 @@ matching::elimination-returns-clause-outcome g t c =
     let named = c.in_ok-on_its_params.ensures.tree in
     let applied = tree-kept _ _ c.in_ok-on_its_params.on_its_params second named.0 ∙ named.1 in
     let same = elimination_step _ _ _ c.args.w.now.pool.now c.args.family.now _ _ _ _ _ _ _ _ _ _ _ _ _ c.in_ok-ty.ensures.outcome (env-kept _ _ _ first c.requires.env_held) (store-kept _ _ _ first c.requires.store_held) (scope-kept _ _ c.args.scope.now first c.requires.scope_held) (tree-kept _ _ c.args.r first c.requires.function) same_env same_store (scope-kept _ _ c.args.scope.now kept c.requires.scope_held) (arity-kept _ _ c.args.family.now kept c.requires.family) applied in
-    subst (λ (o : Outcome AnySort). Meets (λ (s : AnySort). s) o c.eliminated.new.w.left c.eliminated.result) (sym same) c.eliminated.ensures.outcome
+    subst (λ (o : Outcome AnySort). Answers (λ (s : AnySort). s) o c.elimination_sort.new.w.left c.elimination_sort.result) (sym same) c.elimination_sort.ensures.outcome
 
 pub metavariables::infer_metavariable-returns-clause-outcome : goal.metavariables::infer_metavariable-returns-clause-outcome
 metavariables::infer_metavariable-returns-clause-outcome g t c =
@@ -68,4 +68,4 @@ metavariables::infer_terms-returns-in_ok-earlier-in-Item-Item-clause-outcome g t
     let same = terms_made c.args.w.now.pool.now c.check_term.new.w.pool.now c.args.w.now.env.now c.check_term.new.w.env.now c.args.w.now.store.now c.check_term.new.w.store.now c.args.scope.now here.t here.ty _ (ids_of c.deref-in-Item-Item.result.now) _ (ids_of c.deref-in-Item-Item-2.result.now) c.args.earlier.items c.in_ok-earlier-in-Item-Item.earlier.items c.deref.result.now c.args.w.now.left c.check_term.new.w.left c.in_ok-check_term-in-Item-Item.field-0
     (ap (λ r. r.now) checked.env) (ap (λ r. r.now) checked.store) checked.kept c.requires.env_held c.requires.store_held c.requires.scope_held first.0 first.1 second.1 c.requires.earlier_held
     (ap ids_of c.deref-in-Item-Item.ensures) (ap ids_of c.deref-in-Item-Item-2.ensures) c.deref.ensures.value (c.in_ok-earlier-in-Item-Item.ensures.trees c.check_term.new.w.pool.now) checked.outcome in
-    rw (here.is-0, here.is-1) (subst (λ (o : Outcome (Unit {0})). Meets (λ (a : Unit {0}). a) o c.infer_terms.new.w.left c.infer_terms.result) (sym same) c.infer_terms.ensures.outcome)
+    rw (here.is-0, here.is-1) (subst (λ (o : Outcome (Unit {0})). Answers (λ (a : Unit {0}). a) o c.infer_terms.new.w.left c.infer_terms.result) (sym same) c.infer_terms.ensures.outcome)

@@ -1,7 +1,7 @@
 use Rattle.std.proofs.Common.{arith, ap}
-use Rattle.mt_term.specs.Charges.{rest}
+use Rattle.mt_rules.specs.Charges.{rest}
 use Rattle.mt_term.specs.TreeOf.{tree_of}
-use Rattle.mt_term.proofs.InferenceLaws.{check_type-rest}
+use Rattle.mt_rules_laws.proofs.InferenceLaws.{check_type-rest}
 use Rattle.mt_term.specs.EnvironmentOf.{environment_of}
 use Rattle.mt_kernel.proofs.Typed.{type_derived}
 use Rattle.mt_kernel.proofs.check_type.Goals as goal

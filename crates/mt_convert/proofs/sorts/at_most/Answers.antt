@@ -1,5 +1,5 @@
 use Rattle.std.proofs.lemmas.Bool.Decides.{same_from_decides}
-use Rattle.mt_term.proofs.UniverseOrderLaws.{at_most_decides}
+use Rattle.mt_universe.proofs.UniverseOrderLaws.{at_most_decides}
 use Rattle.mt_convert.proofs.sorts.at_most.Goals as goal
 
 pub returns : goal.returns

@@ -1,4 +1,4 @@
 use Rattle.mt_guard.proofs.constructors.+is_on_type.Given as goal
 
 abbrev pub decreases-is_on_type : goal.decreases-is_on_type
-decreases-is_on_type l = l.deep
+decreases-is_on_type l = l.depth_left

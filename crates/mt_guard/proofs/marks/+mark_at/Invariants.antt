@@ -1,4 +1,4 @@
 use Rattle.mt_guard.proofs.marks.+mark_at.Given as goal
 
 abbrev pub decreases-mark_at : goal.decreases-mark_at
-decreases-mark_at l = l.deep
+decreases-mark_at l = l.depth_left

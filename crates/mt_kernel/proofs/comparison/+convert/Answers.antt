@@ -1,11 +1,11 @@
 use Rattle.std.proofs.Common.{subst, sym, ap, ◌∙◌, ◌≡◌, ◌-◌, false}
 use Rattle.mt_term.specs.Alike.{is_alike}
-use Rattle.mt_term.specs.Charges.{Done}
-use Rattle.mt_term.specs.WeakHead.{whd}
+use Rattle.mt_rules.specs.Charges.{Done}
+use Rattle.mt_rules.specs.WeakHead.{whd}
 use Rattle.mt_term.specs.Stores.{no_store}
 use Rattle.mt_term.specs.TreeOf.{tree_of}
-use Rattle.mt_term.proofs.ComparisonRules.{convert-heads}
-use Rattle.mt_kernel.specs.Answers.{Answers}
+use Rattle.mt_rules_laws.proofs.ComparisonRules.{convert-heads}
+use Rattle.mt_rules.specs.Answers.{Answers}
 use Rattle.mt_term.specs.EnvironmentOf.{environment_of}
 use Rattle.mt_kernel.proofs.comparison.+convert.Goals as goal
 

@@ -1,4 +1,4 @@
 use Rattle.mt_kernel.proofs.families.+apply_all.Given as goal
 
 abbrev pub decreases-apply_all : goal.decreases-apply_all
-decreases-apply_all l = l.deep
+decreases-apply_all l = l.depth_left

@@ -1,7 +1,7 @@
 use Rattle.std.proofs.Common.{subst, sym, ◌≡◌, Some}
 use Rattle.mt_term.specs.EnvironmentOf.{environment_of}
 use Rattle.mt_term.specs.TreeOf.{tree_of, trees_of}
-use Rattle.mt_kernel.specs.Answers.{Answers}
+use Rattle.mt_rules.specs.Answers.{Answers}
 use Rattle.mt_kernel.specs.Contexts.{hypotheses_of}
 use Rattle.mt_kernel.specs.Fitting.{branch_goal}
 use Rattle.mt_kernel.proofs.Branching.{by_goal, goal as goal_of}

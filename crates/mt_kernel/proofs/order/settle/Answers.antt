@@ -1,24 +1,25 @@
-use Rattle.std.proofs.Common.{arith}
+use Rattle.std.proofs.Common.{◌≡◌, ◌<◌, ◌+◌, ◌*◌, length, ap, arith}
+use Rattle.std.specs.Prelude.{sum}
+use Rattle.mt_kernel.proofs.Rows.{sum_short}
 use Rattle.mt_kernel.proofs.order.settle.Goals as goal
 
-pub returns-in_err-is_settled-clause-bound : goal.returns-in_err-is_settled-clause-bound
-returns-in_err-is_settled-clause-bound c v o m h = c.is_settled.ensures.bound v o m (c.loop.invariant.bound v o m h)
+pub returns-in-Settled-clause-bound : goal.returns-in-Settled-clause-bound
+returns-in-Settled-clause-bound c v o m h = c.lengthen_by_all.ensures.bound v o m (c.rounds.invariant.bound v o m h)
 
-pub returns-then-branch-clause-bound : goal.returns-then-branch-clause-bound
-returns-then-branch-clause-bound c v o m h = c.is_settled.ensures.bound v o m (c.loop.invariant.bound v o m h)
+pub returns-in-Endless-clause-bound : goal.returns-in-Endless-clause-bound
+returns-in-Endless-clause-bound c v o m h = c.lengthen_by_all.ensures.bound v o m (c.rounds.invariant.bound v o m h)
 
-pub loop-preserved : goal.loop-preserved
-loop-preserved c = record {
-  size = omega (arith, c.is_settled.ensures.size, c.loop.invariant.size);
-  bound = λ v o m h. c.is_settled.ensures.bound v o m (c.loop.invariant.bound v o m h);
-  grown = λ b. omega (arith, c.is_settled.ensures.grown b, c.loop.invariant.grown b);
+pub rounds-preserved : goal.rounds-preserved
+rounds-preserved c = record {
+  size = omega (arith, c.lengthen_by_all.ensures.size, c.rounds.invariant.size);
+  short = c.lengthen_by_all.ensures.short;
+  bound = λ v o m h. c.lengthen_by_all.ensures.bound v o m (c.rounds.invariant.bound v o m h);
+  grown = λ b. omega (arith, c.lengthen_by_all.ensures.grown b, c.rounds.invariant.grown b);
 }
 
-pub returns-in_err-is_settled-2-clause-bound : goal.returns-in_err-is_settled-2-clause-bound
-returns-in_err-is_settled-2-clause-bound c v o m h = c.is_settled-2.ensures.bound v o m (c.loop.invariant.bound v o m h)
-
-pub returns-then-branch-2-clause-bound : goal.returns-then-branch-2-clause-bound
-returns-then-branch-2-clause-bound c v o m h = c.is_settled-2.ensures.bound v o m (c.loop.invariant.bound v o m h)
-
-pub returns-clause-bound : goal.returns-clause-bound
-returns-clause-bound c v o m h = c.is_settled-2.ensures.bound v o m (c.loop.invariant.bound v o m h)
+pub rounds-smaller : goal.rounds-smaller
+rounds-smaller c =
+    let most = sum_short c.lengthen_by_all.new.row.items c.lengthen_by_all.ensures.short in
+    let more : sum c.rounds.row.items < sum c.lengthen_by_all.new.row.items = c.lengthen_by_all.ensures.rises c.in-Longer.is in
+    let same = ap (λ n. n * (n + 1)) c.lengthen_by_all.ensures.size in
+    omega (arith, most, more, same)

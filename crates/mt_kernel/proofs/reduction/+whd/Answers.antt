@@ -1,9 +1,9 @@
 use Rattle.std.proofs.Common.{arith, ap}
-use Rattle.mt_term.specs.Charges.{rest}
+use Rattle.mt_rules.specs.Charges.{rest}
 use Rattle.mt_term.specs.Stores.{no_store}
 use Rattle.mt_term.specs.Trees.{End}
 use Rattle.mt_term.specs.TreeOf.{tree_of}
-use Rattle.mt_term.proofs.WeakHeadLaws.{look-rest}
+use Rattle.mt_rules_laws.proofs.WeakHeadLaws.{look-rest}
 use Rattle.mt_term.specs.EnvironmentOf.{environment_of}
 use Rattle.mt_kernel.proofs.reduction.+whd.Goals as goal
 

@@ -1,5 +1,5 @@
 use Rattle.std.proofs.Common.{ap, sym}
-use Rattle.mt_term.specs.Inference.{constructor_type}
+use Rattle.mt_rules.specs.Inference.{constructor_type}
 use Rattle.mt_layers.proofs.Kept.{constructor-none, constructor-below}
 use Rattle.mt_layers.proofs.entries.type_of_constructor.Goals as goal
 

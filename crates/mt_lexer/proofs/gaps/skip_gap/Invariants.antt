@@ -7,7 +7,7 @@ abbrev pub invariant-loop-at : goal.invariant-loop-at
 invariant-loop-at l = record {
   boundary : IsCharBoundary l.text l.at;
   after : l.from ≤ l.at;
-  deep : l.depth ≤ l.at;
+  depth_left : l.depth ≤ l.at;
   same : gap l.depth false l.at (chars_from l.text l.at) ≡ gap 0 false l.from (chars_from l.text l.from);
 }
 

@@ -1,10 +1,10 @@
 use Rattle.mt_positivity.proofs.arguments.+avoiding.Given as goal
 
 abbrev pub decreases-avoids : goal.decreases-avoids
-decreases-avoids l = l.deep
+decreases-avoids l = l.depth_left
 
 abbrev pub decreases-avoid_terms : goal.decreases-avoid_terms
-decreases-avoid_terms l = l.deep
+decreases-avoid_terms l = l.depth_left
 
 abbrev pub decreases-avoid_branches : goal.decreases-avoid_branches
-decreases-avoid_branches l = l.deep
+decreases-avoid_branches l = l.depth_left

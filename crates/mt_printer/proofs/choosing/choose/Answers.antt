@@ -1,17 +1,21 @@
-use Rattle.std.proofs.Common.{◌≡◌, ◌∙◌, ◌++◌, ◌<◌, ◌^◌, sym, ap, arith}
-use Rattle.std.specs.Prelude.{false}
-use Rattle.mt_printer.specs.Chosen.{avoided_under, candidate, fit_name, is_one_of}
+use Rattle.std.proofs.Common.{◌≡◌, ◌∙◌, ◌++◌, List, sym, subst, ap, IfOk}
+use Rattle.mt_term.specs.Trees.{Bytes}
+use Rattle.mt_printer.specs.Chosen.{avoided_under, base_name, fit_name}
+use Rattle.mt_printer.specs.NamedIn.{avoided_by, named_each}
 use Rattle.mt_printer.specs.ScopeOf.{hypotheses_of, trees_behind}
 use Rattle.mt_printer.specs.Telescopes.{types_in}
-use Rattle.mt_printer.proofs.Fitting.{fit_at}
+use Rattle.mt_printer.proofs.NamedLaws.{found_avoided}
 use Rattle.mt_printer.proofs.choosing.choose.Goals as goal
 
-pub returns-then-not-branch : goal.returns-then-not-branch
-returns-then-not-branch c =
-    let avoided = avoided_under c.args.entries.now c.args.scope.now (types_in (hypotheses_of c.args.hyps.now) ++ trees_behind c.args.parts.now) in
-    let k = c.loop-k.k in
-    let fits : k < 2 ^ 64 = omega (arith, c.loop-k-test.true) in
-    let off : c.in_ok-is_avoided.field-0 ≡ false = first_of (search (c.if-not-branch.true), grind (arith, c.if-not-branch.true)) in
-    let fit : is_one_of avoided (candidate c.base_name-base.result.now k) ≡ false =
-    ap (is_one_of avoided) (sym c.in_ok-answer.ensures ∙ sym c.as_bytes.ensures) ∙ sym c.in_ok-is_avoided.ensures ∙ off in
-    c.in_ok-answer.ensures ∙ sym (fit_at avoided c.base_name-base.result.now k fits c.loop-k.invariant fit) ∙ ap (fit_name avoided) c.base_name-base.ensures
+pub returns : goal.returns
+returns c =
+    let es = c.args.entries.now in
+    let s = c.args.scope.now in
+    let ts = types_in (hypotheses_of c.args.hyps.now) in
+    let us = trees_behind c.args.parts.now in
+    let found : c.add_named_of_parts.new.found.items ≡ named_each ts ++ named_each us =
+    c.in_ok-add_named_of_parts.ensures ∙ ap (λ xs. xs ++ named_each us) (c.in_ok-add_named_of_types.ensures ∙ ap (λ xs. xs ++ named_each ts) c.new-found.ensures.items) in
+    let same : avoided_by es s c.deref.result.now ≡ avoided_under es s (ts ++ us) =
+    ap (avoided_by es s) c.deref.ensures.value ∙ found_avoided es s ts us c.add_named_of_parts.new.found.items found in
+    subst (λ (x : Bytes). IfOk c.fit_name.result (λ answer. answer ≡ fit_name (avoided_under es s (ts ++ us)) x)) c.base_name.ensures
+    (subst (λ (xs : List Bytes). IfOk c.fit_name.result (λ answer. answer ≡ fit_name xs c.base_name.result.now)) same c.fit_name.ensures)

@@ -1,5 +1,5 @@
 use Rattle.std.proofs.Common.{refl}
-use Rattle.mt_printer.specs.GoalsText.{instance_part, instances}
+use Rattle.mt_term.specs.Instancing.{instance_part, instances}
 use Rattle.mt_printer.proofs.Listing.{one_more}
 use Rattle.mt_printer.proofs.goals.instances.Goals as goal
 

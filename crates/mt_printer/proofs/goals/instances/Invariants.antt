@@ -1,5 +1,5 @@
 use Rattle.std.proofs.Common.{◌≡◌, ◌++◌, drop}
-use Rattle.mt_printer.specs.GoalsText.{instances}
+use Rattle.mt_term.specs.Instancing.{instances}
 use Rattle.mt_printer.specs.ScopeOf.{hypotheses_of}
 use Rattle.mt_printer.proofs.goals.instances.Given as goal
 

@@ -2,9 +2,9 @@ use Rattle.std.proofs.Common.{rules, arith, ap}
 use Rattle.mt_layers.specs.Environments.{environment_in}
 use Rattle.mt_pool.specs.Region.{tree_at}
 use Rattle.mt_store.specs.Held.{store_in}
-use Rattle.mt_term.specs.Charges.{rest}
+use Rattle.mt_rules.specs.Charges.{rest}
 use Rattle.mt_term.specs.Trees.{End}
-use Rattle.mt_term.proofs.WeakHeadLaws.{look-rest}
+use Rattle.mt_rules_laws.proofs.WeakHeadLaws.{look-rest}
 use Rattle.mt_reduce.proofs.reduction.+whd.Goals as goal
 
 pub unfold-whd-requires : goal.unfold-whd-requires

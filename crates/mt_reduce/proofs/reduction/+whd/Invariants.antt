@@ -2,17 +2,17 @@ use Rattle.std.proofs.Common.{◌≡◌, ◌+◌, ◌<◌, length}
 use Rattle.mt_layers.specs.Environments.{environment_in, EnvBelow}
 use Rattle.mt_pool.specs.Region.{tree_at, Kept}
 use Rattle.mt_store.specs.Held.{store_in, StoreBelow}
-use Rattle.mt_term.specs.WeakHead.{whd}
+use Rattle.mt_rules.specs.WeakHead.{whd}
 use Rattle.mt_reduce.proofs.reduction.+whd.Given as goal
 
 abbrev pub decreases-whd : goal.decreases-whd
-decreases-whd g l = l.deep
+decreases-whd g l = l.depth_left
 
 abbrev pub decreases-look : goal.decreases-look
-decreases-look g l = l.deep
+decreases-look g l = l.depth_left
 
 abbrev pub decreases-unfold : goal.decreases-unfold
-decreases-unfold g l = l.deep
+decreases-unfold g l = l.depth_left
 
 abbrev pub invariant-whd-loop-next : goal.invariant-whd-loop-next
 invariant-whd-loop-next g l = record {

@@ -11,17 +11,17 @@ units-init g c = record {
 
 pub units-preserved : goal.units-preserved
 units-preserved g c =
-    let went = rw c.in-On.is at c.in_ok-take_unit.ensures.step in record {
+    let went = rw c.in-Accepted.is at c.in_ok-take_unit.ensures.step in record {
       ready = c.in_ok-take_unit.ensures.ready;
       same = goes_on _ _ _ c.units.invariant.ready went c.units.invariant.same;
-      spent = cost_goes_on _ c.units.session c.take_unit.new.session c.units.steps c.take_unit.new.steps _ c.units.invariant.ready went (rw c.in-On.is at c.in_ok-take_unit.ensures.cost) c.units.invariant.spent;
+      spent = cost_goes_on _ c.units.session c.take_unit.new.session c.units.steps c.take_unit.new.steps _ c.units.invariant.ready went (rw c.in-Accepted.is at c.in_ok-take_unit.ensures.cost) c.units.invariant.spent;
     }
 
-pub returns-in-Over-clause-run : goal.returns-in-Over-clause-run
-returns-in-Over-clause-run g c = is_over _ c.units.session c.take_unit.new.session _ c.units.invariant.ready (rw c.in-Over.is at c.in_ok-take_unit.ensures.step) c.units.invariant.same
+pub returns-in-Ended-clause-run : goal.returns-in-Ended-clause-run
+returns-in-Ended-clause-run g c = is_over _ c.units.session c.take_unit.new.session _ c.units.invariant.ready (rw c.in-Ended.is at c.in_ok-take_unit.ensures.step) c.units.invariant.same
 
-pub returns-in-Over-clause-cost : goal.returns-in-Over-clause-cost
-returns-in-Over-clause-cost g c = cost_is_over _ c.units.session c.units.steps c.take_unit.new.steps _ c.units.invariant.ready (rw c.in-Over.is at c.in_ok-take_unit.ensures.cost) c.units.invariant.spent
+pub returns-in-Ended-clause-cost : goal.returns-in-Ended-clause-cost
+returns-in-Ended-clause-cost g c = cost_is_over _ c.units.session c.units.steps c.take_unit.new.steps _ c.units.invariant.ready (rw c.in-Ended.is at c.in_ok-take_unit.ensures.cost) c.units.invariant.spent
 
 pub returns-in_err-take_unit-clause-wanting : goal.returns-in_err-take_unit-clause-wanting
 returns-in_err-take_unit-clause-wanting g c =

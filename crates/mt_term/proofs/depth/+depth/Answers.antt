@@ -24,11 +24,11 @@ depth_arms_some : (bs : Arms) → 0 < depth_arms bs
 depth_arms_some NoArm = omega arith
 depth_arms_some (Arm xs b bs) = omega arith
 
-pub are_branches_within-returns-then-deep-eq0 : goal.are_branches_within-returns-then-deep-eq0
-are_branches_within-returns-then-deep-eq0 t c = omega (arith, c.if-deep-eq0.true, depth_arms_some (arms_of c.args.bs.now))
+pub are_branches_within-returns-then-depth_left-eq0 : goal.are_branches_within-returns-then-depth_left-eq0
+are_branches_within-returns-then-depth_left-eq0 t c = omega (arith, c.if-depth_left-eq0.true, depth_arms_some (arms_of c.args.bs.now))
 
-pub are_terms_within-returns-then-deep-eq0 : goal.are_terms_within-returns-then-deep-eq0
-are_terms_within-returns-then-deep-eq0 t c = omega (arith, c.if-deep-eq0.true, depth_all_some (trees_of c.args.ts.now))
+pub are_terms_within-returns-then-depth_left-eq0 : goal.are_terms_within-returns-then-depth_left-eq0
+are_terms_within-returns-then-depth_left-eq0 t c = omega (arith, c.if-depth_left-eq0.true, depth_all_some (trees_of c.args.ts.now))
 
-pub is_within-returns-then-deep-eq0 : goal.is_within-returns-then-deep-eq0
-is_within-returns-then-deep-eq0 t c = omega (arith, c.if-deep-eq0.true, depth_some (tree_of c.args.t.now))
+pub is_within-returns-then-depth_left-eq0 : goal.is_within-returns-then-depth_left-eq0
+is_within-returns-then-depth_left-eq0 t c = omega (arith, c.if-depth_left-eq0.true, depth_some (tree_of c.args.t.now))

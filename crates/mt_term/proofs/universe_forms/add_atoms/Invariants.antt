@@ -1,5 +1,5 @@
 use Rattle.std.proofs.Common.{◌≡◌, ◌≤◌, length, drop}
-use Rattle.mt_term.specs.Universes.{with_atoms}
+use Rattle.mt_term.specs.UniverseForms.{with_atoms}
 use Rattle.mt_term.proofs.universe_forms.add_atoms.Given as goal
 
 abbrev pub invariant-loop-left : goal.invariant-loop-left

@@ -1,5 +1,5 @@
 use Rattle.std.proofs.Common.{◌≡◌, ◌++◌, take, drop}
-use Rattle.mt_term.specs.Universes.{with_atom}
+use Rattle.mt_term.specs.UniverseForms.{with_atom}
 use Rattle.mt_term.proofs.universe_forms.place_of.Given as goal
 
 abbrev pub invariant-loop-i : goal.invariant-loop-i

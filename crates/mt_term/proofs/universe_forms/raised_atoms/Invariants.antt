@@ -1,6 +1,6 @@
 use Rattle.std.proofs.Common.{◌≡◌, ◌++◌, drop}
 use Rattle.std.specs.List.{list_all}
-use Rattle.mt_term.specs.Universes.{raised_atoms, fits_atom}
+use Rattle.mt_term.specs.UniverseForms.{raised_atoms, fits_atom}
 use Rattle.mt_term.proofs.universe_forms.raised_atoms.Given as goal
 
 abbrev pub invariant-loop-atom : goal.invariant-loop-atom

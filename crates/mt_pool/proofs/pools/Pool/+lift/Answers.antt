@@ -1,7 +1,7 @@
 use Rattle.std.proofs.Common.{refl, ap, subst, ◌∙◌, IfOk}
 use Rattle.mt_term.specs.Passing.{lift_past, lift_past_arms}
 use Rattle.mt_term.specs.Trees.{Tree}
-use Rattle.mt_pool.specs.Region.{tree_in, branches_of, Names}
+use Rattle.mt_pool.specs.Region.{tree_in, branches_of, Denotes}
 use Rattle.mt_pool.proofs.Replaced.{match-made}
 use Rattle.mt_pool.proofs.pools.Pool.+lift.Goals as goal
 
@@ -17,4 +17,4 @@ lift_within-returns-in_ok-bs-in-Match-2-clause-tree t c =
     (c.node.ensures.tree ∙ ap (tree_in c.args.self.now) c.in-Match.is)
     c.in_ok-r-in-Match.r c.in_ok-c-in-Match.c (branches_of c.in_ok-bs-in-Match-2.bs)
     (c.in_ok-r-in-Match.ensures {u = tt}).tree (c.in_ok-c-in-Match.ensures {u = tt}).tree (c.in_ok-bs-in-Match-2.ensures {u = tt}).arms in
-    subst (λ (x : Tree). IfOk c.put-in-Match.result (λ v. Names c.put-in-Match.new.self v x)) e c.put-in-Match.ensures.tree
+    subst (λ (x : Tree). IfOk c.put-in-Match.result (λ v. Denotes c.put-in-Match.new.self v x)) e c.put-in-Match.ensures.tree

@@ -1,7 +1,7 @@
 use Rattle.std.proofs.Common.{refl, ap, subst, ◌∙◌, IfOk}
 use Rattle.mt_term.specs.Passing.{sub_past, sub_past_arms}
 use Rattle.mt_term.specs.Trees.{Tree}
-use Rattle.mt_pool.specs.Region.{tree_in, branches_of, Names, Kept}
+use Rattle.mt_pool.specs.Region.{tree_in, branches_of, Denotes, Kept}
 use Rattle.mt_pool.specs.Replaced.{replacement_in}
 use Rattle.mt_pool.proofs.Region.{kept-then}
 use Rattle.mt_pool.proofs.Replaced.{match-made, replacement-kept}
@@ -27,7 +27,7 @@ substitute_within-returns-in_ok-bs-in-Match-2-clause-tree t c =
     (c.node.ensures.tree ∙ ap (tree_in p0) c.in-Match.is)
     c.in_ok-r-in-Match.r c.in_ok-c-in-Match.c (branches_of c.in_ok-bs-in-Match-2.bs)
     (c.in_ok-r-in-Match.ensures {u = tt}).tree (c.in_ok-c-in-Match.ensures {u = tt}).tree (c.in_ok-bs-in-Match-2.ensures {u = tt}).arms in
-    subst (λ (x : Tree). IfOk c.put-in-Match.result (λ v. Names c.put-in-Match.new.self v x)) e c.put-in-Match.ensures.tree
+    subst (λ (x : Tree). IfOk c.put-in-Match.result (λ v. Denotes c.put-in-Match.new.self v x)) e c.put-in-Match.ensures.tree
 
 pub substitute_within-returns-in_ok-bs-in-Match-2-clause-kept : goal.substitute_within-returns-in_ok-bs-in-Match-2-clause-kept
 substitute_within-returns-in_ok-bs-in-Match-2-clause-kept t c =

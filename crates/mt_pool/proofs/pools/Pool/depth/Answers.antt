@@ -1,5 +1,5 @@
 use Rattle.std.proofs.Common.{◌<◌, length}
-use Rattle.mt_pool.proofs.Placed.{placed-depth, placed-most, placed-length}
+use Rattle.mt_pool.proofs.NodeAtDepth.{placed-depth, placed-most, placed-length}
 use Rattle.mt_pool.proofs.pools.Pool.depth.Goals as goal
 
 pub index-requires : goal.index-requires

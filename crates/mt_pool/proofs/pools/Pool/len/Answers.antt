@@ -1,4 +1,4 @@
-use Rattle.mt_pool.proofs.Placed.{placed-length}
+use Rattle.mt_pool.proofs.NodeAtDepth.{placed-length}
 use Rattle.mt_pool.proofs.pools.Pool.len.Goals as goal
 
 pub returns : goal.returns

@@ -1,5 +1,5 @@
 use Rattle.std.proofs.Common.{◌<◌, length}
-use Rattle.mt_pool.proofs.Placed.{placed-tree, placed-below, placed-length}
+use Rattle.mt_pool.proofs.NodeAtDepth.{placed-tree, placed-below, placed-length}
 use Rattle.mt_pool.proofs.pools.Pool.node.Goals as goal
 
 pub index-requires : goal.index-requires

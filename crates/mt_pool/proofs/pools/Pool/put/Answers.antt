@@ -1,4 +1,4 @@
-use Rattle.mt_pool.proofs.Placed.{place-tree, place-order, place-held, place-kept, placed-length}
+use Rattle.mt_pool.proofs.NodeAtDepth.{place-tree, place-order, place-held, place-kept, placed-length}
 use Rattle.mt_pool.proofs.pools.Pool.put.Goals as goal
 
 pub invariant_of-self-2 : goal.invariant_of-self-2

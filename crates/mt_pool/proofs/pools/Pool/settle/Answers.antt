@@ -1,6 +1,6 @@
 use Rattle.std.proofs.Common.{◌≤◌, length}
 use Rattle.mt_pool.proofs.Built.{on_err}
-use Rattle.mt_pool.proofs.Placed.{placed-length, placed-take, take-order}
+use Rattle.mt_pool.proofs.NodeAtDepth.{placed-length, placed-take, take-order}
 use Rattle.mt_pool.proofs.pools.Pool.settle.Goals as goal
 
 pub invariant_of-self : goal.invariant_of-self

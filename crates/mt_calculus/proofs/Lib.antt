@@ -1,0 +1,2 @@
+pub mod CalculusExamples
+pub mod ScopeExamples

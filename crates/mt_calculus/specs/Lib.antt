@@ -1,0 +1,10 @@
+pub mod Contraction
+pub mod Conversion
+pub mod Typing
+pub mod Scopes
+pub mod Positivity
+pub mod Guard
+pub mod SoundEnvironment
+pub mod SoundStore
+pub mod Derivable
+pub mod SoundInstances

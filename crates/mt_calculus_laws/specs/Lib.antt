@@ -1,0 +1,3 @@
+pub mod Laws
+pub mod StoreLaws
+pub mod GrowthLaws

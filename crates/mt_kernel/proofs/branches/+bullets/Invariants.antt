@@ -1,4 +1,0 @@
-use Rattle.mt_kernel.proofs.branches.+bullets.Given as goal
-
-abbrev pub decreases-bullets : goal.decreases-bullets
-decreases-bullets l = l.deep

@@ -1,0 +1,19 @@
+// Bytes and numbers at the end of a text.
+ghost use Rattle.std.specs.Prelude.{◌≡◌, ◌++◌, OnOk};
+ghost use Rattle.std.specs.Fmt.{decimal};
+
+use mt_term::OutOfMemory;
+use std::alloc::Global;
+
+pub fn put(out: &mut Vec<u8>, text: &[u8]) -> Result<(), OutOfMemory>
+    ensures { OnOk result (out.new.items ≡ out.old.items ++ text.now) }
+{
+    out.extend_from_slice(text)
+}
+
+pub fn put_number(alloc: Global, out: &mut Vec<u8>, number: u64) -> Result<(), OutOfMemory>
+    ensures { OnOk result (out.new.items ≡ out.old.items ++ decimal number) }
+{
+    let text = number.to_string(alloc)?;
+    put(out, text.as_bytes())
+}

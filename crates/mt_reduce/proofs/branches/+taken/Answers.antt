@@ -1,4 +1,0 @@
-use Rattle.mt_reduce.proofs.branches.+taken.Goals as goal
-
-pub branch_under-requires-clause-others : goal.branch_under-requires-clause-others
-branch_under-requires-clause-others t c = c.all_but.ensures.held _ c.requires.others

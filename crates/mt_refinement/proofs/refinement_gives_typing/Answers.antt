@@ -1,5 +1,0 @@
-use Rattle.mt_refinement.proofs.refinement_gives_typing.Goals as goal
-use Rattle.mt_refinement.proofs.RefinementSoundness.{refinement_law}
-
-pub returns : goal.returns
-returns c = record { law = refinement_law }

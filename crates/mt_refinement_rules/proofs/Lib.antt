@@ -1,0 +1,7 @@
+mod Samples
+mod RefinementExamples
+mod ApplicationExamples
+mod MatchExamples
+mod Units
+mod HintExamples
+mod CoercionExamples

@@ -1,0 +1,10 @@
+pub mod Applications
+pub mod Binders
+pub mod Coercions
+pub mod Finishing
+pub mod Heads
+pub mod Matches
+pub mod Placed
+pub mod Placeholders
+pub mod Refinement
+pub mod Settings

@@ -1,0 +1,3 @@
+pub mod ReductionLaws
+pub mod AllowanceLaws
+pub mod RuleTables

@@ -1,0 +1,5 @@
+mod Answers
+mod Greater
+mod Law
+mod Laws
+mod Examples

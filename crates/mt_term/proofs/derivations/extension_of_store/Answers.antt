@@ -1,5 +1,0 @@
-use Rattle.mt_term.proofs.derivations.extension_of_store.Goals as goal
-use Rattle.mt_term.proofs.DerivationLaws.{extension_law}
-
-pub returns : goal.returns
-returns c = record { law = extension_law }

@@ -1,5 +1,0 @@
-use Rattle.mt_term.proofs.reductions.comparison_gives_conversion.Goals as goal
-use Rattle.mt_term.proofs.ReductionTheorems.{comparison_law}
-
-pub returns : goal.returns
-returns c = record { law = comparison_law }

@@ -1,5 +1,0 @@
-use Rattle.mt_term.proofs.reductions.inference_gives_strict_type.Goals as goal
-use Rattle.mt_term.proofs.ReductionTheorems.{strict_inference_law}
-
-pub returns : goal.returns
-returns c = record { law = strict_inference_law }

@@ -1,5 +1,0 @@
-use Rattle.mt_term.proofs.reductions.weak_head_by_contractions.Goals as goal
-use Rattle.mt_term.proofs.ReductionTheorems.{weak_head_law}
-
-pub returns : goal.returns
-returns c = record { law = weak_head_law }

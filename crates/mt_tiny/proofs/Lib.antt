@@ -1,0 +1,4 @@
+pub mod GoalLists
+pub mod Places
+pub mod Acting
+pub mod Tags

@@ -1,5 +1,0 @@
-use Rattle.mt_unification.proofs.going_by_allowance.Goals as goal
-use Rattle.mt_unification.proofs.UnificationAllowance.{unification_allowance_law}
-
-pub returns : goal.returns
-returns c = record { law = unification_allowance_law }

@@ -1,0 +1,3 @@
+pub mod ProperStores
+pub mod TypedHints
+pub mod UnificationLaws

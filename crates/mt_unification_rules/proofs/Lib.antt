@@ -1,0 +1,3 @@
+mod UnificationExamples
+mod HintExamples
+mod PartExamples

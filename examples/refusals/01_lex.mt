@@ -1,0 +1,2 @@
+(* % is no sign of the language. *)
+axiom a : %.

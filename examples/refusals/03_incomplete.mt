@@ -1,0 +1,2 @@
+(* The dot that ends the unit is missing. *)
+axiom a : Prop

@@ -1,0 +1,2 @@
+(* Nothing is called nat yet. *)
+axiom zero : nat.

@@ -1,0 +1,3 @@
+(* A name stands for one thing. *)
+axiom a : Prop.
+axiom a : Prop.
