@@ -1,11 +1,5 @@
-//! Calls of the layers of reduction, comparison and inference, each with ample memory.
+//! Charges, lists of ids and entries on ids, each with ample memory.
 #![tactic(auto)]
 
 #[cfg(test)]
-mod comparison;
-#[cfg(test)]
-mod inference;
-#[cfg(test)]
 mod layers;
-#[cfg(test)]
-mod reduction;

@@ -1,8 +1,7 @@
-// Each public call, with ample memory.
-use mt_env::{Env, EnvStop, Ref, hold};
-use mt_pool::{Held, Pool};
+// Marks, copies and trees of an environment.
+use mt_env::{Env, Ref};
+use mt_pool::Pool;
 use mt_term::{Cons, Constructor, Entry, Name, Sort, Term};
-use mt_universe::GraphStop;
 use std::alloc::{AllocError, Global};
 use std::test::Fail;
 
@@ -37,35 +36,6 @@ fn found(alloc: Global, env: &Env, name: &[u8]) -> Result<Option<Ref>, AllocErro
 }
 
 #[test]
-fn names_are_found_by_their_numbers(rt: HostRuntime) -> Result<(), Fail> {
-    let alloc = rt.alloc();
-    let mut pool = Pool::new(alloc);
-    let mut env = Env::new(alloc);
-    env.add(
-        alloc,
-        &mut pool,
-        &axiom(alloc, b"x", Term::Sort(Sort::Prop))?,
-    )?;
-    let number = env.add(alloc, &mut pool, &pair(alloc, b"or2", b"l", b"r")?)?;
-    assert!(rt; number == 1 && env.len() == 2 && matches!(env.entry(1), Held::Inductive { .. }));
-    assert_eq!(rt; found(alloc, &env, b"x")?, Some(Ref::Const(0)));
-    assert_eq!(rt; found(alloc, &env, b"r")?, Some(Ref::Con(1, 1)));
-    assert_eq!(rt; found(alloc, &env, b"y")?, None);
-    Ok(())
-}
-
-#[test]
-fn a_name_in_use_is_taken(rt: HostRuntime) -> Result<(), Fail> {
-    let alloc = rt.alloc();
-    let mut pool = Pool::new(alloc);
-    let mut env = Env::new(alloc);
-    let entry = pair(alloc, b"t", b"c", b"c")?;
-    assert_eq!(rt; env.add(alloc, &mut pool, &entry), Err(EnvStop::Taken));
-    assert_eq!(rt; found(alloc, &env, b"c")?, None);
-    Ok(())
-}
-
-#[test]
 fn a_mark_is_gone_back_to(rt: HostRuntime) -> Result<(), Fail> {
     let alloc = rt.alloc();
     let mut pool = Pool::new(alloc);
@@ -76,21 +46,6 @@ fn a_mark_is_gone_back_to(rt: HostRuntime) -> Result<(), Fail> {
     env.back_to(&mark);
     assert_eq!(rt; env.len(), 0);
     assert_eq!(rt; found(alloc, &env, b"l")?, None);
-    Ok(())
-}
-
-#[test]
-fn a_third_constraint_closes_a_cycle(rt: HostRuntime) -> Result<(), Fail> {
-    let alloc = rt.alloc();
-    let mut env = Env::new(alloc);
-    let name = |name: &[u8]| Name::from_bytes(alloc, name);
-    env.constrain(name(b"a")?, name(b"b")?)?;
-    env.constrain(name(b"b")?, name(b"c")?)?;
-    assert_eq!(rt;
-        env.constrain(name(b"c")?, name(b"a")?),
-        Err(GraphStop::Cycle)
-    );
-    assert_eq!(rt; env.graph().count(), 2);
     Ok(())
 }
 
@@ -118,14 +73,5 @@ fn an_environment_as_trees(rt: HostRuntime) -> Result<(), Fail> {
     let plain = env.plain(alloc, &pool, &mark)?;
     assert_eq!(rt; plain.entries.len(), 1);
     assert!(rt; env.type_of(Ref::Ind(0)).at < pool.len());
-    Ok(())
-}
-
-#[test]
-fn an_entry_is_held_by_ids(rt: HostRuntime) -> Result<(), Fail> {
-    let alloc = rt.alloc();
-    let mut pool = Pool::new(alloc);
-    let held = hold(alloc, &mut pool, &pair(alloc, b"or2", b"l", b"r")?)?;
-    assert!(rt; matches!(&held, Held::Inductive { cons, large: false, .. } if cons.len() == 2));
     Ok(())
 }

@@ -4,11 +4,9 @@
 #[cfg(test)]
 mod environment;
 #[cfg(test)]
-mod guard;
+mod laws;
 #[cfg(test)]
 mod pool;
-#[cfg(test)]
-mod positivity;
 #[cfg(test)]
 mod store;
 #[cfg(test)]

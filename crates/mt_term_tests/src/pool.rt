@@ -1,13 +1,10 @@
-// Each public call once, with ample memory.
+// Lifting and substitution on ids, and the bound on depth.
 ghost use Rattle.std.specs.Prelude.{◌<◌, length, IfOk};
 ghost use Rattle.mt_pool.specs.Region.{Kept};
 
-use mt_pool::{
-    BranchIds, Context, Held, HeldCons, HeldConstructor, HeldHyp, Node, Pool, TermId, TermIds,
-};
-use mt_term::{Atoms, Name, Names, Sort, Term, Terms, UnivExpr, alike};
+use mt_pool::{Node, Pool, TermId};
+use mt_term::{Atoms, Sort, Term, UnivExpr, alike};
 use std::alloc::{AllocError, Global};
-use std::clone::Clone;
 use std::test::Fail;
 
 fn type_of_level(alloc: Global, base: u32) -> Term {
@@ -28,32 +25,6 @@ fn says(alloc: Global, pool: &Pool, id: TermId, t: &Term) -> Result<bool, AllocE
     }
     let exported = pool.export(alloc, id)?;
     Ok(alike(&exported, t))
-}
-
-#[test]
-fn each_put_gives_a_new_id(rt: HostRuntime) -> Result<(), Fail> {
-    let mut pool = Pool::new(rt.alloc());
-    let first = pool.put(Node::Sort(Sort::Prop))?;
-    let second = pool.put(Node::Sort(Sort::Prop))?;
-    assert!(rt; first != second && pool.len() == 2);
-    Ok(())
-}
-
-// `λx:Prop.match x return ?0[x] with [ x ⇒ x ]`, by the binder's name
-#[tactic(auto, using(mt_pool::proofs::Region::kept))]
-fn abstraction(alloc: Global, pool: &mut Pool, name: &[u8]) -> Result<TermId, AllocError>
-    ensures kept { Kept pool.old pool.new }
-    ensures held { IfOk result (λ id. id.at < length pool.new) }
-{
-    let binder = Name::from_bytes(alloc, name)?;
-    let mut names = Names::new(alloc);
-    names.push(Name::from_bytes(alloc, name)?)?;
-    let prop = pool.put(Node::Sort(Sort::Prop))?;
-    let x = pool.put(Node::Var(0))?;
-    let meta = pool.put(Node::Meta(0, TermIds::Item(x, Box::new(alloc, TermIds::End)?)))?;
-    let branches = BranchIds::Item(names, x, Box::new(alloc, BranchIds::End)?);
-    let body = pool.put(Node::Match(0, meta, x, branches))?;
-    pool.put(Node::Lam(binder, prop, body))
 }
 
 // So many applications, each of the one before.
@@ -78,31 +49,6 @@ fn trees_are_at_most_2_000_deep(rt: HostRuntime) -> Result<(), Fail> {
     let t = tower(&mut pool, 1990)?;
     let u = tower(&mut pool, 1990)?;
     assert!(rt; pool.alike(t, u) && pool.depth(t) == 1991);
-    Ok(())
-}
-
-#[test]
-#[tactic(auto, using(mt_pool::proofs::Region::kept))]
-fn names_of_binders_do_not_count(rt: HostRuntime) -> Result<(), Fail> {
-    let alloc = rt.alloc();
-    let mut pool = Pool::new(alloc);
-    let t = abstraction(alloc, &mut pool, b"x")?;
-    let u = abstraction(alloc, &mut pool, b"y")?;
-    assert!(rt; t != u && pool.alike(t, u) && pool.depth(t) == 5);
-    assert!(rt; matches!(pool.node(t), Node::Lam(x, _, _) if x.as_bytes() == b"x".as_slice()));
-    Ok(())
-}
-
-#[test]
-#[tactic(auto, using(mt_pool::proofs::Region::kept))]
-fn a_term_comes_back_as_it_was(rt: HostRuntime) -> Result<(), Fail> {
-    let alloc = rt.alloc();
-    let mut pool = Pool::new(alloc);
-    let t = abstraction(alloc, &mut pool, b"x")?;
-    let exported = pool.export(alloc, t)?;
-    assert!(rt; matches!(&exported, Term::Lam(x, _, _) if x.as_bytes() == b"x".as_slice()));
-    let again = pool.import(alloc, &exported)?;
-    assert!(rt; says(alloc, &pool, again, &exported)?);
     Ok(())
 }
 
@@ -169,66 +115,5 @@ fn a_body_is_filled(rt: HostRuntime) -> Result<(), Fail> {
     let made = pool.fill(alloc, t, &[prop])?;
     let wanted = app(alloc, Term::Sort(Sort::Prop), Term::Var(0))?;
     assert!(rt; says(alloc, &pool, made, &wanted)?);
-    Ok(())
-}
-
-#[test]
-fn a_metavariable_keeps_its_terms(rt: HostRuntime) -> Result<(), Fail> {
-    let alloc = rt.alloc();
-    let mut pool = Pool::new(alloc);
-    let terms = Terms::Item(Box::new(alloc, Term::Var(0))?, Box::new(alloc, Terms::End)?);
-    let meta = pool.import(alloc, &Term::Meta(3, terms))?;
-    let up = pool.lift(alloc, meta, 1, 0)?;
-    let terms = Terms::Item(Box::new(alloc, Term::Var(1))?, Box::new(alloc, Terms::End)?);
-    assert!(rt; says(alloc, &pool, up, &Term::Meta(3, terms))?);
-    Ok(())
-}
-
-// A constructor of this type.
-fn one_constructor(alloc: Global, ty: TermId) -> Result<HeldCons, AllocError> {
-    let mut cons = HeldCons::new(alloc);
-    cons.push(HeldConstructor {
-        name: Name::new(alloc),
-        ty,
-    })?;
-    cons.clone()
-}
-
-#[test]
-fn constructors_are_a_list(rt: HostRuntime) -> Result<(), Fail> {
-    let cons = one_constructor(rt.alloc(), TermId { at: 0 })?;
-    assert!(rt; cons.len() == 1 && cons.as_slice().len() == 1);
-    assert!(rt; cons.get(0).is_some() && cons.get(1).is_none());
-    Ok(())
-}
-
-#[test]
-fn contexts_are_lists(rt: HostRuntime) -> Result<(), Fail> {
-    let alloc = rt.alloc();
-    let mut first = Context::new(alloc);
-    first.push(HeldHyp {
-        name: Name::new(alloc),
-        ty: TermId { at: 0 },
-    })?;
-    let context = first.clone()?;
-    assert!(rt; context.len() == 1 && context.as_slice().len() == 1);
-    assert!(rt; context.get(0).is_some() && context.get(1).is_none());
-    Ok(())
-}
-
-#[test]
-fn an_entry_is_copied(rt: HostRuntime) -> Result<(), Fail> {
-    let alloc = rt.alloc();
-    let ty = TermId { at: 0 };
-    let entry = Held::Inductive {
-        name: Name::new(alloc),
-        co: false,
-        params: 0,
-        ty,
-        cons: one_constructor(alloc, ty)?,
-        large: false,
-    };
-    let copy = entry.clone()?;
-    assert!(rt; matches!(&copy, Held::Inductive { cons, .. } if cons.len() == 1));
     Ok(())
 }

@@ -1,5 +1,0 @@
-//! Calls of the kernel with ample memory, and worked costs.
-#![tactic(auto)]
-
-#[cfg(test)]
-mod kernel;

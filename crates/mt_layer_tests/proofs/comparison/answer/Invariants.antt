@@ -1,4 +1,0 @@
-use Rattle.mt_layer_tests.proofs.comparison.answer.Given as goal
-
-abbrev pub ghosts-compared : goal.ghosts-compared
-ghosts-compared a = record { name = a.blank.name; parts = a.blank.parts }
