@@ -1,0 +1,8 @@
+mod Samples
+mod RawTermExamples
+mod ImplicationExamples
+mod ChangeExamples
+mod AssumptionExamples
+mod GeneralizingExamples
+mod ClearingExamples
+mod ActionExamples

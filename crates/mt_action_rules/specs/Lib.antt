@@ -1,0 +1,9 @@
+pub mod Abstraction
+pub mod Actions
+pub mod Assumptions
+pub mod Changes
+pub mod Clearing
+pub mod Generalizing
+pub mod Goals
+pub mod Implications
+pub mod RawTerms
