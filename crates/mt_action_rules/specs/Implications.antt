@@ -1,7 +1,7 @@
 -- Actions that go by an implication with the goal behind it: `cut` and `lapply`.
-use Rattle.std.specs.Prelude.{ℕ, None}
+use Rattle.std.specs.Prelude.{ℕ, suc, None}
 use Rattle.mt_term.specs.Trees.{Tree, Prod, App}
-use Rattle.mt_term.specs.Lifting.{lift}
+use Rattle.mt_term.specs.Substitution.{ren}
 use Rattle.mt_unification_rules.specs.Placeholders.{Typed, placeholder}
 use Rattle.mt_term_parser.specs.Written.{Written}
 use Rattle.mt_refinement_rules.specs.Placed.{Placed, ◌>>=◌}
@@ -14,7 +14,7 @@ use Rattle.mt_action_rules.specs.Goals.{Goal, Rule, fill_by}
 
 -- `T → U`
 abbrev pub implication : Tree → Tree → Tree
-implication T U = Prod unnamed T (lift 1 0 U)
+implication T U = Prod unnamed T (ren suc U)
 
 -- a new goal, `T → G` for the goal G
 abbrev pub implied : Goal → Metas → Tree → Typed
